@@ -5,4 +5,5 @@ pub mod Writing
 pub mod Turns
 pub mod Stores
 pub mod Round
+pub mod Refusals
 pub mod Examples

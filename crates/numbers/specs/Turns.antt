@@ -1,14 +1,14 @@
 -- Laws of the reader's loop: what the byte at i says of the number that starts there, and what the weights leave room for.
 use mathlib.Core.Path.{_≡_, refl, sym, ap, _∙_}
 use Prim.Native.Nat.{ℕ, zero, suc, _+_, _-_, _*_, _^_, _≤_, _<_}
-use mathlib.Core.List.{List, [], _∷_}
+use mathlib.Core.List.{List}
 use native.Mathlib.Nat.{zero-add, one-mul, mul-add, add-assoc, mul-assoc, mul-le-mul-left, mul-one}
 use native.Mathlib.Numerals.{add-one, sub-one}
 use native.Mathlib.Omega.{arith}
 use borrow.Author.Tests.{le-ltb, lt-ltb}
 use lib.ListN.{drop, length, getD, drop-of-length-le}
 use lib.Seq.{drop-cons}
-use Rattle.numbers.specs.Number.{Reading, Read, Refused, last, more, groups, placed, readNumber}
+use Rattle.numbers.specs.Number.{Reading, Read, Refused, last, more, groups, placed}
 
 -- what was read so far, v in groups whose next has the weight sc, below the number that starts at i
 unfoldable pub onto : ℕ → ℕ → ℕ → Reading → Reading

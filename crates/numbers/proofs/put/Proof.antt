@@ -1,5 +1,5 @@
 -- The writer's loop: the first i bytes of the number are in `out`, and what is left of them is the bytes of x.
-use mathlib.Core.Path.{_≡_, refl, sym, ap, _∙_}
+use mathlib.Core.Path.{_≡_, refl, ap, _∙_}
 use mathlib.Core.List.{List, [], _∷_}
 use Prim.Native.Nat.{ℕ, _-_, _/_, _<_}
 use native.Mathlib.Omega.{arith}

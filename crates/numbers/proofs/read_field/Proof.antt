@@ -1,5 +1,5 @@
 -- A field: its number, then its range.
-use mathlib.Core.Path.{_≡_, sym, ap, _∙_}
+use mathlib.Core.Path.{sym, ap, _∙_}
 use borrow.Author.Needs.{needs}
 use Rattle.numbers.specs.Number.{reading}
 use Rattle.numbers.specs.Field.{field-low, field-high, field-value, field-refused}

@@ -1,0 +1,47 @@
+-- Document 01, "Road sheet" and "Period sheet": how many numbers each has, and the range of each place.
+use Prim.Native.Nat.{ℕ, _+_, _-_, _*_, _%_, min, max}
+use mathlib.Core.List.{List, [], _∷_}
+use lib.ListN.{getD}
+use lib.Dec.{ltb, eqb}
+use Rattle.numbers.specs.Choice.{if_then_else_}
+use Rattle.numbers.specs.declared.Range.{Range}
+use Rattle.sheets.specs.declared.Layout.{Layout}
+use Rattle.sheets.specs.declared.Layout.the-variants.{Road, Period}
+
+-- low .. high, else refusal 4
+infix 70 _to_
+abbrev pub _to_ : ℕ → ℕ → Range
+low to high = record { low = low; high = high; refusal = 4 }
+
+-- past a table's end
+abbrev pub noRange : Range
+noRange = record { low = 0; high = 0; refusal = 0 }
+
+-- length L, lanes N, free-flow speed V, capacity C, on-ramp capacity R, off-ramp share s, off-ramp capacity F
+abbrev pub segmentTable : List Range
+segmentTable = 300 to 26400 ∷ 1 to 8 ∷ 15 to 85 ∷ 1 to 20000 ∷ 0 to 10000 ∷ 0 to 1000 ∷ 0 to 10000 ∷ []
+
+-- NS, jam density KJ, density at capacity KC, capacity drop A
+abbrev pub roadTable : List Range
+roadTable = 1 to 64 ∷ 100 to 300 ∷ 30 to 60 ∷ 0 to 50 ∷ []
+
+unfoldable pub roadRange : ℕ → Range
+roadRange k = if ltb k 4 then getD roadTable k noRange else getD segmentTable ((k - 4) % 7) noRange
+
+-- NS, which is the road's, else refusal 14
+abbrev pub sameSegments : ℕ → Range
+sameSegments ns = record { low = max 1 ns; high = min ns 64; refusal = 14 }
+
+-- NS; mainline demand and exit capacity X; then for each segment ramp demand and meter rate
+unfoldable pub periodRange : ℕ → ℕ → Range
+periodRange ns k = if eqb k 0 then sameSegments ns else if ltb k 3 then 0 to 20000 else 0 to 10000
+
+-- the range of the place k
+unfoldable pub rangeOf : Layout → ℕ → Range
+rangeOf (Road ns) k = roadRange k
+rangeOf (Period ns) k = periodRange ns k
+
+-- how many numbers; no sheet has more than 64 segments
+unfoldable pub countOf : Layout → ℕ
+countOf (Road ns) = 4 + 7 * min ns 64
+countOf (Period ns) = 3 + 2 * min ns 64

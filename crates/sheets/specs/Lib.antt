@@ -1,0 +1,11 @@
+pub mod Layout
+pub mod Read
+pub mod Write
+pub mod Parts
+pub mod Allowed
+pub mod Ranges
+pub mod Turns
+pub mod Round
+pub mod Refusals
+pub mod Good
+pub mod Examples

@@ -1,0 +1,208 @@
+-- A sheet written and read again is the same sheet, with the written count used, wherever it stands in a buffer; one read and written
+-- again is the bytes that its reading used. Once for every layout; a road's layout is known by its first number.
+use mathlib.Core.Path.{_≡_, refl, sym, ap, _∙_}
+use Prim.Native.Nat.{ℕ, zero, suc, _+_, _-_, _≤_, _<_}
+use mathlib.Core.List.{List, [], _∷_, _++_, append-assoc}
+use native.Mathlib.Nat.{zero-add, add-zero, add-assoc}
+use native.Mathlib.Omega.{arith}
+use lib.ListN.{length, take, drop, getD, replicate, length-append}
+use lib.Seq.{take-add, drop-drop, take-at, drop-at, length-take-le}
+use Rattle.numbers.specs.Number.{Reading, Read, Refused, numberBytes}
+use Rattle.numbers.specs.Field.{In, readField, field-value, field-back}
+use Rattle.numbers.specs.Writing.{writeInto, written}
+use Rattle.numbers.specs.Round.{written-reads, read-writes, Bytes}
+use Rattle.sheets.specs.declared.Layout.{Layout}
+use Rattle.sheets.specs.declared.Layout.the-variants.{Road, Period}
+use Rattle.sheets.specs.declared.Sheet.{Sheet}
+use Rattle.sheets.specs.Layout.{roadRange, rangeOf, countOf}
+use Rattle.sheets.specs.Read.{Rows, ReadRow, RefusedAt, onto, andThen, fields, readRow, roadFrom, readRoad, readPeriod, padded, sheetOf}
+use Rattle.sheets.specs.Write.{rowBytes, sheetRow, roadRow, periodRow}
+use Rattle.sheets.specs.Ranges.{usable, count-some, period-first}
+use Rattle.sheets.specs.Turns.{road-read}
+
+-- the row's numbers are in the ranges of the places from k on
+abbrev pub From : Layout → ℕ → List ℕ → Type 0
+From l k row = (j : ℕ) → j < length row → In (rangeOf l (k + j)) (getD row j 0)
+
+-- a row of the layout
+abbrev pub RowOf : Layout → List ℕ → Type 0
+RowOf l row = (length row ≡ countOf l) × From l 0 row
+
+from-head : (l : Layout) (k v : ℕ) (row : List ℕ) → From l k (v ∷ row) → In (rangeOf l k) v
+from-head l k v row h = rw add-zero at (h 0 (omega arith))
+
+from-tail : (l : Layout) (k v : ℕ) (row : List ℕ) → From l k (v ∷ row) → From l (k + 1) row
+from-tail l k v row h j i =
+    let e : k + 1 + j ≡ k + suc j = omega arith in
+    rw e (h (suc j) (omega arith))
+
+from-cons : (l : Layout) (k v : ℕ) (row : List ℕ) → In (rangeOf l k) v → From l (k + 1) row → From l k (v ∷ row)
+from-cons l k v row h t zero i = rw add-zero h
+from-cons l k v row h t (suc j) i =
+    let e : k + suc j ≡ k + 1 + j = omega arith in
+    rw e (t j (omega arith))
+
+-- ---- what was written is read back
+value-reads : (l : Layout) (k v : ℕ) (before rest : List ℕ) → In (rangeOf l k) v
+    → readField (rangeOf l k) (before ++ (numberBytes v ++ rest)) (length before) ≡ Read v (length before + length (numberBytes v))
+value-reads l k v before rest h = field-value _ _ _ _ _ (written-reads v before rest (omega (arith, usable l k .fits, h .1))) h
+
+reads-fields : (l : Layout) (row : List ℕ) (k : ℕ) (before rest : List ℕ) → From l k row
+    → fields l (length row) k (before ++ (rowBytes row ++ rest)) (length before) ≡ ReadRow row (length before + length (rowBytes row))
+unfolding fields andThen onto rowBytes
+reads-fields l [] k before rest h = rw add-zero
+reads-fields l (v ∷ row) k before rest h =
+    let f = value-reads l k v before (rowBytes row ++ rest) (from-head l k v row h) in
+    let ih = simp (append-assoc, length-append, add-assoc) at (reads-fields l row (k + 1) (before ++ numberBytes v) rest (from-tail l k v row h)) in
+    simp (append-assoc, length-append, add-assoc) (rw (f, ih))
+
+pub written-row : (l : Layout) (row rest : List ℕ) → RowOf l row → readRow l (rowBytes row ++ rest) ≡ ReadRow row (length (rowBytes row))
+unfolding readRow
+written-row l row rest h = rw (← (h .0)) (rw zero-add at (reads-fields l row 0 [] rest (h .1)))
+
+written-road : (row rest : List ℕ) → RowOf (Road (getD row 0 0)) row → readRoad (rowBytes row ++ rest) ≡ ReadRow row (length (rowBytes row))
+unfolding rowBytes rangeOf countOf
+written-road [] rest h = absurd (omega (arith, h .0))
+written-road (ns ∷ row) rest h =
+    let f : readField (roadRange 0) (numberBytes ns ++ (rowBytes row ++ rest)) 0 ≡ Read ns (0 + length (numberBytes ns)) = value-reads (Road ns) 0 ns [] (rowBytes row ++ rest) (from-head (Road ns) 0 ns row (h .1)) in
+    let g : readField (roadRange 0) ((numberBytes ns ++ rowBytes row) ++ rest) 0 ≡ Read ns (0 + length (numberBytes ns)) = rw append-assoc f in
+    road-read _ _ _ g ∙ written-row (Road ns) (ns ∷ row) rest h
+
+-- ---- what was read is the bytes of its row
+onto-back : (v : ℕ) (r : Rows) (row : List ℕ) (next : ℕ) → onto (v ∷ []) r ≡ ReadRow row next → (more : List ℕ) × (r ≡ ReadRow more next) × (row ≡ v ∷ more)
+unfolding onto
+onto-back v (ReadRow more n) row next e = (more, cc, cc)
+onto-back v (RefusedAt x at) row next e = absurd (let z : _≡_ {A = ℕ} 0 1 = cc in omega arith)
+
+then-back : (at : ℕ) (x : Reading) (rest : ℕ → Rows) (row : List ℕ) (next : ℕ) → andThen at x rest ≡ ReadRow row next
+    → (v : ℕ) × (n : ℕ) × (more : List ℕ) × (x ≡ Read v n) × (rest n ≡ ReadRow more next) × (row ≡ v ∷ more)
+unfolding andThen
+then-back at (Read v n) rest row next e =
+    let o = onto-back v (rest n) row next e in
+    (v, n, o .0, refl, o .1, o .2)
+then-back at (Refused x) rest row next e = absurd (let z : _≡_ {A = ℕ} 0 1 = cc in omega arith)
+
+-- the bytes from `at` to next are the row's, and the row is one of the layout from k on
+record Back (l : Layout) (left k : ℕ) (s : List ℕ) (at : ℕ) (row : List ℕ) (next : ℕ) : Type 0 where
+  bytes : take (length (rowBytes row)) (drop at s) ≡ rowBytes row
+  place : next ≡ at + length (rowBytes row)
+  size : length row ≡ left
+  ranged : From l k row
+
+back-end : (l : Layout) (k : ℕ) (s : List ℕ) (at : ℕ) → Back l 0 k s at [] at
+unfolding rowBytes
+back-end l k s at = record { bytes = refl; place = omega arith; size = refl; ranged = λ j h. absurd (omega arith) }
+
+back-more : (l : Layout) (left k : ℕ) (s : List ℕ) (at v n : ℕ) (row : List ℕ) (next : ℕ) → Bytes s
+    → readField (rangeOf l k) s at ≡ Read v n → Back l left (k + 1) s n row next → Back l (suc left) k s at (v ∷ row) next
+unfolding rowBytes
+back-more l left k s at v n row next by e b =
+    let f = field-back (rangeOf l k) s at v n e in
+    let w = read-writes s at v n by (f .0) in
+    let m : n - at ≡ length (numberBytes v) = omega (arith, w .2) in
+    let t : take (length (numberBytes v)) (drop at s) ≡ numberBytes v = rw m at (w .0) in
+    record {
+      bytes = rw (length-append, take-add, t, drop-drop, ← (w .2), b .bytes);
+      place = rw length-append (omega (arith, w .2, b .place));
+      size = ap suc (b .size);
+      ranged = from-cons l k v row (f .1) (b .ranged);
+    }
+
+fields-back : (l : Layout) (left k : ℕ) (s : List ℕ) (at : ℕ) (row : List ℕ) (next : ℕ) → Bytes s → fields l left k s at ≡ ReadRow row next → Back l left k s at row next
+unfolding fields
+fields-back l zero k s at row next by e =
+    let r : [] ≡ row = cc in
+    let n : at ≡ next = cc in
+    rw (← r, ← n) (back-end l k s at)
+fields-back l (suc left) k s at row next by e =
+    let g = then-back at (readField (rangeOf l k) s at) (fields l left (k + 1) s) row next e in
+    let b = fields-back l left (k + 1) s (g .1) (g .2) next by (g .4) in
+    rw (g .5) (back-more l left k s at (g .0) (g .1) (g .2) next by (g .3) b)
+
+pub read-row-back : (l : Layout) (s row : List ℕ) (used : ℕ) → Bytes s → readRow l s ≡ ReadRow row used
+    → (take used s ≡ rowBytes row) × (used ≡ length (rowBytes row)) × RowOf l row
+unfolding readRow
+read-row-back l s row used by e =
+    let b = fields-back l (countOf l) 0 s 0 row used by e in
+    let u : used ≡ length (rowBytes row) = omega (arith, b .place) in
+    (rw u (b .bytes), u, (b .size, b .ranged))
+
+-- ---- the first number is NS
+first-number : (l : Layout) (s row : List ℕ) (used ns n : ℕ) → readField (rangeOf l 0) s 0 ≡ Read ns n → readRow l s ≡ ReadRow row used → getD row 0 0 ≡ ns
+unfolding readRow fields
+first-number l s row used ns n f e = first-of (countOf l) (count-some l) e
+  where
+    first-of : (c : ℕ) → 0 < c → fields l c 0 s 0 ≡ ReadRow row used → getD row 0 0 ≡ ns
+    first-of zero h g = absurd (omega arith)
+    first-of (suc c) h g =
+        let b = then-back 0 (readField (rangeOf l 0) s 0) (fields l c (0 + 1) s) row used g in
+        let v : b .0 ≡ ns = cc (b .3) in
+        ap (λ (r : List ℕ). getD r 0 0) (b .5) ∙ v
+
+from-back : (s : List ℕ) (x : Reading) (row : List ℕ) (used : ℕ) → roadFrom s x ≡ ReadRow row used → (ns : ℕ) × (n : ℕ) × (x ≡ Read ns n) × (readRow (Road ns) s ≡ ReadRow row used)
+unfolding roadFrom
+from-back s (Read ns n) row used e = (ns, n, refl, e)
+from-back s (Refused x) row used e = absurd (let z : _≡_ {A = ℕ} 0 1 = cc in omega arith)
+
+pub read-road-back : (s row : List ℕ) (used : ℕ) → Bytes s → readRoad s ≡ ReadRow row used
+    → (take used s ≡ rowBytes row) × (used ≡ length (rowBytes row)) × RowOf (Road (getD row 0 0)) row
+unfolding readRoad rangeOf
+read-road-back s row used by e =
+    let r = from-back s (readField (roadRange 0) s 0) row used e in
+    let ns : getD row 0 0 ≡ r .0 = first-number (Road (r .0)) s row used (r .0) (r .1) (r .2) (r .3) in
+    rw ns (read-row-back (Road (r .0)) s row used by (r .3))
+
+pub period-number : (ns : ℕ) (row : List ℕ) → RowOf (Period ns) row → getD row 0 0 ≡ ns
+unfolding rangeOf
+period-number ns [] a = absurd (omega (arith, a .0, count-some (Period ns)))
+period-number ns (v ∷ row) a =
+    let h = rw (period-first ns 0 refl) at (from-head (Period ns) 0 v row (a .1)) in
+    omega (arith, h .0, h .1)
+
+pub read-period-back : (road s row : List ℕ) (used : ℕ) → Bytes s → readPeriod road s ≡ ReadRow row used
+    → (take used s ≡ rowBytes row) × (used ≡ length (rowBytes row)) × RowOf (Period (getD row 0 0)) row
+unfolding readPeriod
+read-period-back road s row used by e =
+    let b = read-row-back (Period (getD road 0 0)) s row used by e in
+    let ns : getD row 0 0 ≡ getD road 0 0 = period-number (getD road 0 0) row (b .2) in
+    rw ns b
+
+-- ---- the same of the code's rows, which have zeros after the sheet's numbers
+pub padded-row : (layout : ℕ → Layout) (row : List ℕ) → length row ≡ countOf (layout (getD row 0 0)) → sheetRow layout (padded row) ≡ row
+unfolding sheetRow
+padded-row layout [] h = absurd (omega (arith, h, count-some (layout 0)))
+padded-row layout (ns ∷ row) h = take-at (ns ∷ row) (replicate (452 - length (ns ∷ row)) 0) _ h
+
+-- a row written at a place of a buffer stands there
+written-there : (buffer row : List ℕ) (at : ℕ) → at + length (rowBytes row) ≤ length buffer
+    → drop at (writeInto buffer at (rowBytes row)) ≡ rowBytes row ++ drop (at + length (rowBytes row)) buffer
+written-there buffer row at h =
+    rw (written buffer at (rowBytes row) h .1, append-assoc)
+    (drop-at (take at buffer) (rowBytes row ++ drop (at + length (rowBytes row)) buffer) at (length-take-le at buffer (omega arith)))
+
+-- a sheet that was read, of so many bytes
+abbrev pub accepted : List ℕ → ℕ → Sheet
+accepted row used = record { refusal = 0; offset = 0; used = used; row = padded row }
+
+module _ (buffer row : List ℕ) (at : ℕ) (room : at + length (rowBytes row) ≤ length buffer) where
+  pub road-written-read : RowOf (Road (getD row 0 0)) row → sheetOf (readRoad (drop at (writeInto buffer at (rowBytes row)))) ≡ accepted row (length (rowBytes row))
+  unfolding sheetOf
+  road-written-read h = rw (written-there buffer row at room, written-road row (drop (at + length (rowBytes row)) buffer) h)
+
+  pub period-written-read : (road : List ℕ) → RowOf (Period (getD road 0 0)) row
+      → sheetOf (readPeriod road (drop at (writeInto buffer at (rowBytes row)))) ≡ accepted row (length (rowBytes row))
+  unfolding sheetOf readPeriod
+  period-written-read road h = rw (written-there buffer row at room, written-row (Period (getD road 0 0)) row (drop (at + length (rowBytes row)) buffer) h)
+
+module _ (s row : List ℕ) (used : ℕ) (by : Bytes s) where
+  pub road-read-written : readRoad s ≡ ReadRow row used → rowBytes (roadRow (sheetOf (readRoad s) .row)) ≡ take used s
+  unfolding sheetOf
+  road-read-written e =
+      let b = read-road-back s row used by e in
+      rw (e, padded-row Road row (b .2 .0)) (sym (b .0))
+
+  pub period-read-written : (road : List ℕ) → readPeriod road s ≡ ReadRow row used → rowBytes (periodRow (sheetOf (readPeriod road s) .row)) ≡ take used s
+  unfolding sheetOf
+  period-read-written road e =
+      let b = read-period-back road s row used by e in
+      rw (e, padded-row Period row (b .2 .0)) (sym (b .0))
