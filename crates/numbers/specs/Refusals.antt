@@ -34,7 +34,7 @@ named-groups zero least [] = omega arith
 named-groups (suc k) least [] = omega arith
 named-groups zero least (b ∷ bs) = either (ltb 15 b) (Refused 2) (last least b) (omega arith) (named-last least b)
 named-groups (suc k) least (b ∷ bs) =
-    either (ltb b 128) (last least b) (more (b - 128) (groups k 1 bs)) (named-last least b) (named-more (b - 128) (groups k 1 bs) (named-groups k 1 bs))
+    either (ltb b 128) _ _ (named-last least b) (named-more (b - 128) _ (named-groups k _ bs))
 
 named-placed : (at : ℕ) (r : Reading) → Named r → Named (placed at r)
 unfolding placed
