@@ -7,7 +7,6 @@ use native.Mathlib.Nat.{add-zero, zero-add}
 use native.Mathlib.Omega.{arith}
 use lib.ListN.{length, getD, replicate, List·getD-append}
 use Rattle.numbers.specs.Field.{In}
-use Rattle.numbers.specs.Round.{Bytes}
 use Rattle.sheets.specs.declared.Layout.{Layout}
 use Rattle.sheets.specs.declared.Layout.the-variants.{Road, Period}
 use Rattle.sheets.specs.declared.Segment.{Segment}
@@ -16,7 +15,7 @@ use Rattle.sheets.specs.Read.{ReadRow, readRoad, readPeriod, padded}
 use Rattle.sheets.specs.Parts.{roadGlobals, segmentOf, periodGlobals, rampOf}
 use Rattle.sheets.specs.Allowed.{allowed, roadAllowed, periodAllowed, allowed-at, allowed-by}
 use Rattle.sheets.specs.Ranges.{count-some, road-first, road-later, period-first, period-flow, period-ramp}
-use Rattle.sheets.specs.Round.{RowOf, read-row-back, read-road-back}
+use Rattle.sheets.specs.Round.{RowOf, road-ranged, period-ranged}
 
 pub record GoodSegment (s : Segment) : Type 0 where
   pub length : (300 ≤ s .length) × (s .length ≤ 26400)
@@ -109,12 +108,12 @@ first-padded : (l : Layout) (row : List ℕ) → length row ≡ countOf l → ge
 first-padded l [] h = absurd (omega (arith, h, count-some l))
 first-padded l (v ∷ row) h = refl
 
-pub read-road-allowed : (s row : List ℕ) (used : ℕ) → Bytes s → readRoad s ≡ ReadRow row used → roadAllowed (padded row) ≡ true
+pub read-road-allowed : (s row : List ℕ) (used : ℕ) → readRoad s ≡ ReadRow row used → roadAllowed (padded row) ≡ true
 unfolding roadAllowed
-read-road-allowed s row used by e =
-    let r = read-road-back s row used by e .2 in
+read-road-allowed s row used e =
+    let r = road-ranged s row used e in
     rw (first-padded (Road (getD row 0 0)) row (r .0)) (padded-allowed (Road (getD row 0 0)) row r)
 
-pub read-period-allowed : (road s row : List ℕ) (used : ℕ) → Bytes s → readPeriod road s ≡ ReadRow row used → periodAllowed road (padded row) ≡ true
-unfolding periodAllowed readPeriod
-read-period-allowed road s row used by e = padded-allowed (Period (getD road 0 0)) row (read-row-back (Period (getD road 0 0)) s row used by e .2)
+pub read-period-allowed : (road s row : List ℕ) (used : ℕ) → readPeriod road s ≡ ReadRow row used → periodAllowed road (padded row) ≡ true
+unfolding periodAllowed
+read-period-allowed road s row used e = padded-allowed (Period (getD road 0 0)) row (period-ranged road s row used e .0)

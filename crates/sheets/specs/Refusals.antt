@@ -38,15 +38,28 @@ unfolding roadFrom readRow
 named-road s (Read ns n) h = named-fields (Road ns) (countOf (Road ns)) 0 s 0
 named-road s (Refused e) h = h
 
+road-named : (s : List ℕ) → NamedRow (readRoad s)
+unfolding readRoad rangeOf
+road-named s = named-road s (readField (roadRange 0) s 0) (named-field (roadRange 0) s 0 (usable (Road 0) 0 .named))
+
+period-named : (road s : List ℕ) → NamedRow (readPeriod road s)
+unfolding readPeriod readRow
+period-named road s = named-fields (Period (getD road 0 0)) (countOf (Period (getD road 0 0))) 0 s 0
+
+-- a refusal's number
+pub road-refusal : (s : List ℕ) (e at : ℕ) → readRoad s ≡ RefusedAt e at → 1 ≤ e
+road-refusal s e at r = rw r at (road-named s)
+
+pub period-refusal : (road s : List ℕ) (e at : ℕ) → readPeriod road s ≡ RefusedAt e at → 1 ≤ e
+period-refusal road s e at r = rw r at (period-named road s)
+
 was-read : (r : Rows) → NamedRow r → sheetOf r .refusal ≡ 0 → (row : List ℕ) × (used : ℕ) × (r ≡ ReadRow row used)
 unfolding sheetOf
 was-read (ReadRow row n) h z = (row, n, refl)
 was-read (RefusedAt e at) h z = absurd (omega arith)
 
 pub road-was-read : (s : List ℕ) → sheetOf (readRoad s) .refusal ≡ 0 → (row : List ℕ) × (used : ℕ) × (readRoad s ≡ ReadRow row used)
-unfolding readRoad rangeOf
-road-was-read s z = was-read (readRoad s) (named-road s (readField (roadRange 0) s 0) (named-field (roadRange 0) s 0 (usable (Road 0) 0 .named))) z
+road-was-read s z = was-read (readRoad s) (road-named s) z
 
 pub period-was-read : (road s : List ℕ) → sheetOf (readPeriod road s) .refusal ≡ 0 → (row : List ℕ) × (used : ℕ) × (readPeriod road s ≡ ReadRow row used)
-unfolding readPeriod readRow
-period-was-read road s z = was-read (readPeriod road s) (named-fields (Period (getD road 0 0)) (countOf (Period (getD road 0 0))) 0 s 0) z
+period-was-read road s z = was-read (readPeriod road s) (period-named road s) z

@@ -82,50 +82,57 @@ then-back at (Read v n) rest row next e =
     (v, n, o .0, refl, o .1, o .2)
 then-back at (Refused x) rest row next e = absurd (let z : _≡_ {A = ℕ} 0 1 = cc in omega arith)
 
--- the bytes from `at` to next are the row's, and the row is one of the layout from k on
-record Back (l : Layout) (left k : ℕ) (s : List ℕ) (at : ℕ) (row : List ℕ) (next : ℕ) : Type 0 where
+-- the row is one of the layout from k on
+fields-ranged : (l : Layout) (left k : ℕ) (s : List ℕ) (at : ℕ) (row : List ℕ) (next : ℕ) → fields l left k s at ≡ ReadRow row next → (length row ≡ left) × From l k row
+unfolding fields
+fields-ranged l zero k s at row next e =
+    let r : [] ≡ row = cc in
+    rw (← r) (refl, λ j h. absurd (omega arith))
+fields-ranged l (suc left) k s at row next e =
+    let g = then-back at (readField (rangeOf l k) s at) (fields l left (k + 1) s) row next e in
+    let b = fields-ranged l left (k + 1) s (g .1) (g .2) next (g .4) in
+    rw (g .5) (ap suc (b .0), from-cons l k (g .0) (g .2) (field-back (rangeOf l k) s at (g .0) (g .1) (g .3) .1) (b .1))
+
+-- the bytes from `at` to next are the row's
+record Back (s : List ℕ) (at : ℕ) (row : List ℕ) (next : ℕ) : Type 0 where
   bytes : take (length (rowBytes row)) (drop at s) ≡ rowBytes row
   place : next ≡ at + length (rowBytes row)
-  size : length row ≡ left
-  ranged : From l k row
 
-back-end : (l : Layout) (k : ℕ) (s : List ℕ) (at : ℕ) → Back l 0 k s at [] at
+back-end : (s : List ℕ) (at : ℕ) → Back s at [] at
 unfolding rowBytes
-back-end l k s at = record { bytes = refl; place = omega arith; size = refl; ranged = λ j h. absurd (omega arith) }
+back-end s at = record { bytes = refl; place = omega arith }
 
-back-more : (l : Layout) (left k : ℕ) (s : List ℕ) (at v n : ℕ) (row : List ℕ) (next : ℕ) → Bytes s
-    → readField (rangeOf l k) s at ≡ Read v n → Back l left (k + 1) s n row next → Back l (suc left) k s at (v ∷ row) next
+back-more : (l : Layout) (k : ℕ) (s : List ℕ) (at v n : ℕ) (row : List ℕ) (next : ℕ) → Bytes s
+    → readField (rangeOf l k) s at ≡ Read v n → Back s n row next → Back s at (v ∷ row) next
 unfolding rowBytes
-back-more l left k s at v n row next by e b =
-    let f = field-back (rangeOf l k) s at v n e in
-    let w = read-writes s at v n by (f .0) in
+back-more l k s at v n row next by e b =
+    let w = read-writes s at v n by (field-back (rangeOf l k) s at v n e .0) in
     let m : n - at ≡ length (numberBytes v) = omega (arith, w .2) in
     let t : take (length (numberBytes v)) (drop at s) ≡ numberBytes v = rw m at (w .0) in
-    record {
-      bytes = rw (length-append, take-add, t, drop-drop, ← (w .2), b .bytes);
-      place = rw length-append (omega (arith, w .2, b .place));
-      size = ap suc (b .size);
-      ranged = from-cons l k v row (f .1) (b .ranged);
-    }
+    record { bytes = rw (length-append, take-add, t, drop-drop, ← (w .2), b .bytes); place = rw length-append (omega (arith, w .2, b .place)) }
 
-fields-back : (l : Layout) (left k : ℕ) (s : List ℕ) (at : ℕ) (row : List ℕ) (next : ℕ) → Bytes s → fields l left k s at ≡ ReadRow row next → Back l left k s at row next
+fields-back : (l : Layout) (left k : ℕ) (s : List ℕ) (at : ℕ) (row : List ℕ) (next : ℕ) → Bytes s → fields l left k s at ≡ ReadRow row next → Back s at row next
 unfolding fields
 fields-back l zero k s at row next by e =
     let r : [] ≡ row = cc in
     let n : at ≡ next = cc in
-    rw (← r, ← n) (back-end l k s at)
+    rw (← r, ← n) (back-end s at)
 fields-back l (suc left) k s at row next by e =
     let g = then-back at (readField (rangeOf l k) s at) (fields l left (k + 1) s) row next e in
     let b = fields-back l left (k + 1) s (g .1) (g .2) next by (g .4) in
-    rw (g .5) (back-more l left k s at (g .0) (g .1) (g .2) next by (g .3) b)
+    rw (g .5) (back-more l k s at (g .0) (g .1) (g .2) next by (g .3) b)
 
-pub read-row-back : (l : Layout) (s row : List ℕ) (used : ℕ) → Bytes s → readRow l s ≡ ReadRow row used
-    → (take used s ≡ rowBytes row) × (used ≡ length (rowBytes row)) × RowOf l row
+-- a row that was read is one of its layout, and the bytes that its reading used are its bytes
+pub row-ranged : (l : Layout) (s row : List ℕ) (used : ℕ) → readRow l s ≡ ReadRow row used → RowOf l row
 unfolding readRow
-read-row-back l s row used by e =
+row-ranged l s row used e = fields-ranged l (countOf l) 0 s 0 row used e
+
+pub row-back : (l : Layout) (s row : List ℕ) (used : ℕ) → Bytes s → readRow l s ≡ ReadRow row used → (take used s ≡ rowBytes row) × (used ≡ length (rowBytes row))
+unfolding readRow
+row-back l s row used by e =
     let b = fields-back l (countOf l) 0 s 0 row used by e in
     let u : used ≡ length (rowBytes row) = omega (arith, b .place) in
-    (rw u (b .bytes), u, (b .size, b .ranged))
+    (rw u (b .bytes), u)
 
 -- ---- the first number is NS
 first-number : (l : Layout) (s row : List ℕ) (used ns n : ℕ) → readField (rangeOf l 0) s 0 ≡ Read ns n → readRow l s ≡ ReadRow row used → getD row 0 0 ≡ ns
@@ -144,28 +151,29 @@ unfolding roadFrom
 from-back s (Read ns n) row used e = (ns, n, refl, e)
 from-back s (Refused x) row used e = absurd (let z : _≡_ {A = ℕ} 0 1 = cc in omega arith)
 
-pub read-road-back : (s row : List ℕ) (used : ℕ) → Bytes s → readRoad s ≡ ReadRow row used
-    → (take used s ≡ rowBytes row) × (used ≡ length (rowBytes row)) × RowOf (Road (getD row 0 0)) row
+-- a road that was read, by its own first number
+road-back : (s row : List ℕ) (used : ℕ) → readRoad s ≡ ReadRow row used → readRow (Road (getD row 0 0)) s ≡ ReadRow row used
 unfolding readRoad rangeOf
-read-road-back s row used by e =
+road-back s row used e =
     let r = from-back s (readField (roadRange 0) s 0) row used e in
     let ns : getD row 0 0 ≡ r .0 = first-number (Road (r .0)) s row used (r .0) (r .1) (r .2) (r .3) in
-    rw ns (read-row-back (Road (r .0)) s row used by (r .3))
+    rw ns (r .3)
 
-pub period-number : (ns : ℕ) (row : List ℕ) → RowOf (Period ns) row → getD row 0 0 ≡ ns
+pub road-ranged : (s row : List ℕ) (used : ℕ) → readRoad s ≡ ReadRow row used → RowOf (Road (getD row 0 0)) row
+road-ranged s row used e = row-ranged (Road (getD row 0 0)) s row used (road-back s row used e)
+
+period-number : (ns : ℕ) (row : List ℕ) → RowOf (Period ns) row → getD row 0 0 ≡ ns
 unfolding rangeOf
 period-number ns [] a = absurd (omega (arith, a .0, count-some (Period ns)))
 period-number ns (v ∷ row) a =
     let h = rw (period-first ns 0 refl) at (from-head (Period ns) 0 v row (a .1)) in
     omega (arith, h .0, h .1)
 
-pub read-period-back : (road s row : List ℕ) (used : ℕ) → Bytes s → readPeriod road s ≡ ReadRow row used
-    → (take used s ≡ rowBytes row) × (used ≡ length (rowBytes row)) × RowOf (Period (getD row 0 0)) row
+pub period-ranged : (road s row : List ℕ) (used : ℕ) → readPeriod road s ≡ ReadRow row used → RowOf (Period (getD road 0 0)) row × (getD row 0 0 ≡ getD road 0 0)
 unfolding readPeriod
-read-period-back road s row used by e =
-    let b = read-row-back (Period (getD road 0 0)) s row used by e in
-    let ns : getD row 0 0 ≡ getD road 0 0 = period-number (getD road 0 0) row (b .2) in
-    rw ns b
+period-ranged road s row used e =
+    let r = row-ranged (Period (getD road 0 0)) s row used e in
+    (r, period-number (getD road 0 0) row r)
 
 -- ---- the same of the code's rows, which have zeros after the sheet's numbers
 pub padded-row : (layout : ℕ → Layout) (row : List ℕ) → length row ≡ countOf (layout (getD row 0 0)) → sheetRow layout (padded row) ≡ row
@@ -197,12 +205,27 @@ module _ (buffer row : List ℕ) (at : ℕ) (room : at + length (rowBytes row) �
 module _ (s row : List ℕ) (used : ℕ) (by : Bytes s) where
   pub road-read-written : readRoad s ≡ ReadRow row used → rowBytes (roadRow (sheetOf (readRoad s) .row)) ≡ take used s
   unfolding sheetOf
-  road-read-written e =
-      let b = read-road-back s row used by e in
-      rw (e, padded-row Road row (b .2 .0)) (sym (b .0))
+  road-read-written e = rw (e, padded-row Road row (road-ranged s row used e .0)) (sym (row-back (Road (getD row 0 0)) s row used by (road-back s row used e) .0))
 
   pub period-read-written : (road : List ℕ) → readPeriod road s ≡ ReadRow row used → rowBytes (periodRow (sheetOf (readPeriod road s) .row)) ≡ take used s
-  unfolding sheetOf
+  unfolding sheetOf readPeriod
   period-read-written road e =
-      let b = read-period-back road s row used by e in
-      rw (e, padded-row Period row (b .2 .0)) (sym (b .0))
+      let p = period-ranged road s row used e in
+      let size : length row ≡ countOf (Period (getD row 0 0)) = rw (p .1) (p .0 .0) in
+      rw (e, padded-row Period row size) (sym (row-back (Period (getD road 0 0)) s row used by e .0))
+
+  -- and what a reading used, written anywhere, reads back as the same sheet
+  module _ (buffer : List ℕ) (at : ℕ) (room : at + length (take used s) ≤ length buffer) where
+    pub road-again : readRoad s ≡ ReadRow row used → sheetOf (readRoad (drop at (writeInto buffer at (take used s)))) ≡ sheetOf (readRoad s)
+    unfolding sheetOf
+    road-again e =
+        let b = row-back (Road (getD row 0 0)) s row used by (road-back s row used e) in
+        let w = road-written-read buffer row at (rw (b .0) at room) (road-ranged s row used e) in
+        rw (e, b .0) (w ∙ ap (accepted row) (sym (b .1)))
+
+    pub period-again : (road : List ℕ) → readPeriod road s ≡ ReadRow row used → sheetOf (readPeriod road (drop at (writeInto buffer at (take used s)))) ≡ sheetOf (readPeriod road s)
+    unfolding sheetOf readPeriod
+    period-again road e =
+        let b = row-back (Period (getD road 0 0)) s row used by e in
+        let w = period-written-read buffer row at (rw (b .0) at room) road (period-ranged road s row used e .0) in
+        rw (e, b .0) (w ∙ ap (accepted row) (sym (b .1)))
