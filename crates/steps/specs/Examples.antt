@@ -1,0 +1,101 @@
+-- The rules compute: the merge and split rows of document 01, and steps of studies whose states were worked out apart from these definitions.
+use Prim.Native.Nat.{ℕ, zero, suc}
+use mathlib.Core.Path.{_≡_, refl}
+use mathlib.Core.List.{List, [], _∷_, map}
+use lib.ListN.{replicate}
+use Rattle.sheets.specs.Parts.{roadGlobals, segmentOf, periodGlobals, rampOf}
+use Rattle.steps.specs.declared.Cell.{Cell}
+use Rattle.steps.specs.declared.State.{State}
+use Rattle.steps.specs.Rules.{largest, roundedUp, partsAt, wishToLeave, off, through, mostLeaving, rampWish, entrance, supply, rampFlow, mainFlow, leaving}
+use Rattle.steps.specs.declared.Level.the-variants.{A, B, C, D, E, F}
+use Rattle.steps.specs.Level.{holdsAtMost, levelBy, levelOf}
+use Rattle.steps.specs.Step.{noCell, segments, lanesAt, capacityAt, jamAt, criticalAt, offAt, throughAt, wishAt, mostAt, mainWishAt, rampWishAt, queuedAt, entranceAt, supplyAt, rampFlowAt, mainFlowAt, leavingAt, nextCell, replaced, stepped}
+
+-- r and f of a merge
+unfoldable pub merge : (supply lanes mainWish rampWish : ℕ) → ℕ × ℕ
+merge p n m w = (rampFlow p n m w, mainFlow m p (rampFlow p n m w))
+
+-- y and off(y) of a split
+unfoldable pub split : (share offramp wish ahead : ℕ) → ℕ × ℕ
+split s f d a = (leaving s (mostLeaving s f d) a, off s (leaving s (mostLeaving s f d) a))
+
+-- the starred rows. Merge, P = 4000, N = 2: M 3900, W 500; M 3900, W 1500; M 1000, W 4000. Split, s = 250, F 1: D 7, f 4; D 9 gives Y0.
+pub starred :
+    (merge 4000 2 3900 500 ∷ merge 4000 2 3900 1500 ∷ merge 4000 2 1000 4000 ∷ [] ≡ (500, 3500) ∷ (1000, 3000) ∷ (3000, 1000) ∷ []) ×
+    (split 250 1 7 4 ≡ (5, 1)) × (mostLeaving 250 1 9 ≡ 7)
+unfolding merge split rampFlow mainFlow leaving mostLeaving largest through off
+starred = (refl, refl, refl)
+
+-- the letters at the limits of a lane of 1320 feet, and one part above each
+levels :
+    map (λ n. levelOf n 1320 1) (660 ∷ 661 ∷ 1080 ∷ 1081 ∷ 1560 ∷ 1561 ∷ 2100 ∷ 2101 ∷ 2700 ∷ 2701 ∷ []) ≡
+    A ∷ B ∷ B ∷ C ∷ C ∷ D ∷ D ∷ E ∷ E ∷ F ∷ []
+unfolding levelOf levelBy holdsAtMost
+levels = refl
+
+cell : (n q f r off y : ℕ) → Cell
+cell n q f r o y = record { n = n; q = q; main = f; ramp = r; off = o; out = y }
+
+-- a road just laid, of so many segments
+laid : ℕ → State
+laid ns = record { cells = replicate ns noCell; origin = 0; exit = 0 }
+
+-- so many steps from a road just laid
+after : ℕ → List ℕ → List ℕ → State
+after zero road period = laid (segments road)
+after (suc k) road period = stepped road period (after k road period)
+
+-- the worked study, 3 steps
+workedRoad : List ℕ
+workedRoad = 1 ∷ 190 ∷ 45 ∷ 7 ∷ 1320 ∷ 2 ∷ 60 ∷ 4400 ∷ 0 ∷ 0 ∷ 0 ∷ []
+
+workedPeriod : List ℕ
+workedPeriod = 1 ∷ 4800 ∷ 10000 ∷ 0 ∷ 0 ∷ []
+
+worked : after 3 workedRoad workedPeriod ≡ record { cells = cell 4092 0 4092 0 0 4092 ∷ []; origin = 1816; exit = 4092 }
+unfolding workedRoad workedPeriod after laid cell stepped replaced nextCell leavingAt mainFlowAt rampFlowAt supplyAt entranceAt queuedAt rampWishAt mainWishAt mostAt wishAt throughAt offAt criticalAt jamAt capacityAt lanesAt roadGlobals segmentOf periodGlobals rampOf leaving mainFlow rampFlow supply entrance rampWish mostLeaving through off wishToLeave partsAt roundedUp largest
+worked = refl
+
+-- an off-ramp that takes nobody, and one of share 1000, 8 steps
+blockedOffRampRoad : List ℕ
+blockedOffRampRoad = 4 ∷ 190 ∷ 45 ∷ 7 ∷ 2640 ∷ 3 ∷ 60 ∷ 6600 ∷ 0 ∷ 0 ∷ 0 ∷ 2640 ∷ 3 ∷ 60 ∷ 6600 ∷ 0 ∷ 400 ∷ 0 ∷ 2640 ∷ 3 ∷ 60 ∷ 6600 ∷ 0 ∷ 1000 ∷ 100 ∷ 2640 ∷ 3 ∷ 60 ∷ 6600 ∷ 0 ∷ 0 ∷ 0 ∷ []
+
+blockedOffRampPeriod : List ℕ
+blockedOffRampPeriod = 4 ∷ 5000 ∷ 20000 ∷ 0 ∷ 0 ∷ 0 ∷ 0 ∷ 0 ∷ 0 ∷ 0 ∷ 0 ∷ []
+
+blockedOffRamp : after 8 blockedOffRampRoad blockedOffRampPeriod ≡ record { cells = cell 9960 0 5000 0 0 4961 ∷ cell 30028 0 4961 0 0 2 ∷ cell 3 0 2 0 2 2 ∷ cell 0 0 0 0 0 0 ∷ []; origin = 0; exit = 0 }
+unfolding blockedOffRampRoad blockedOffRampPeriod after laid cell stepped replaced nextCell leavingAt mainFlowAt rampFlowAt supplyAt entranceAt queuedAt rampWishAt mainWishAt mostAt wishAt throughAt offAt criticalAt jamAt capacityAt lanesAt roadGlobals segmentOf periodGlobals rampOf leaving mainFlow rampFlow supply entrance rampWish mostLeaving through off wishToLeave partsAt roundedUp largest
+blockedOffRamp = refl
+
+-- metered ramps, one meter at zero, 5 steps
+meteredRoad : List ℕ
+meteredRoad = 3 ∷ 190 ∷ 45 ∷ 7 ∷ 2640 ∷ 3 ∷ 60 ∷ 6600 ∷ 1800 ∷ 0 ∷ 0 ∷ 2640 ∷ 3 ∷ 60 ∷ 6600 ∷ 1800 ∷ 0 ∷ 0 ∷ 2640 ∷ 2 ∷ 60 ∷ 4400 ∷ 1800 ∷ 0 ∷ 0 ∷ []
+
+meteredPeriod : List ℕ
+meteredPeriod = 3 ∷ 3500 ∷ 20000 ∷ 600 ∷ 240 ∷ 900 ∷ 400 ∷ 700 ∷ 0 ∷ []
+
+metered : after 5 meteredRoad meteredPeriod ≡ record { cells = cell 7246 1800 3500 240 0 3506 ∷ cell 6852 2500 3506 400 0 2947 ∷ cell 4390 3500 2947 0 0 1444 ∷ []; origin = 0; exit = 1444 }
+unfolding meteredRoad meteredPeriod after laid cell stepped replaced nextCell leavingAt mainFlowAt rampFlowAt supplyAt entranceAt queuedAt rampWishAt mainWishAt mostAt wishAt throughAt offAt criticalAt jamAt capacityAt lanesAt roadGlobals segmentOf periodGlobals rampOf leaving mainFlow rampFlow supply entrance rampWish mostLeaving through off wishToLeave partsAt roundedUp largest
+metered = refl
+
+-- five segments of uneven kinds, 4 steps
+randomRoad : List ℕ
+randomRoad = 5 ∷ 300 ∷ 45 ∷ 50 ∷ 300 ∷ 6 ∷ 15 ∷ 20000 ∷ 0 ∷ 720 ∷ 1 ∷ 1320 ∷ 6 ∷ 60 ∷ 1 ∷ 1800 ∷ 999 ∷ 0 ∷ 9527 ∷ 7 ∷ 15 ∷ 20000 ∷ 10000 ∷ 583 ∷ 10000 ∷ 2512 ∷ 3 ∷ 34 ∷ 20000 ∷ 10000 ∷ 224 ∷ 600 ∷ 500 ∷ 1 ∷ 60 ∷ 1 ∷ 1800 ∷ 250 ∷ 1 ∷ []
+
+randomPeriod : List ℕ
+randomPeriod = 5 ∷ 20000 ∷ 20000 ∷ 600 ∷ 10000 ∷ 9912 ∷ 0 ∷ 600 ∷ 0 ∷ 0 ∷ 900 ∷ 3210 ∷ 8933 ∷ []
+
+random : after 4 randomRoad randomPeriod ≡ record { cells = cell 24544 2400 7 0 0 0 ∷ cell 0 39648 0 0 0 0 ∷ cell 0 2400 0 0 0 0 ∷ cell 0 0 0 0 0 0 ∷ cell 1 12836 0 1 0 1 ∷ []; origin = 55456; exit = 1 }
+unfolding randomRoad randomPeriod after laid cell stepped replaced nextCell leavingAt mainFlowAt rampFlowAt supplyAt entranceAt queuedAt rampWishAt mainWishAt mostAt wishAt throughAt offAt criticalAt jamAt capacityAt lanesAt roadGlobals segmentOf periodGlobals rampOf leaving mainFlow rampFlow supply entrance rampWish mostLeaving through off wishToLeave partsAt roundedUp largest
+random = refl
+
+-- a segment at its jam, 8 steps
+jamRoad : List ℕ
+jamRoad = 2 ∷ 100 ∷ 60 ∷ 50 ∷ 300 ∷ 1 ∷ 15 ∷ 20000 ∷ 0 ∷ 0 ∷ 0 ∷ 300 ∷ 1 ∷ 15 ∷ 1 ∷ 0 ∷ 0 ∷ 0 ∷ []
+
+jamPeriod : List ℕ
+jamPeriod = 2 ∷ 20000 ∷ 20000 ∷ 0 ∷ 0 ∷ 0 ∷ 0 ∷ []
+
+jam : after 8 jamRoad jamPeriod ≡ record { cells = cell 1363 0 0 0 0 0 ∷ cell 0 0 0 0 0 0 ∷ []; origin = 158637; exit = 0 }
+unfolding jamRoad jamPeriod after laid cell stepped replaced nextCell leavingAt mainFlowAt rampFlowAt supplyAt entranceAt queuedAt rampWishAt mainWishAt mostAt wishAt throughAt offAt criticalAt jamAt capacityAt lanesAt roadGlobals segmentOf periodGlobals rampOf leaving mainFlow rampFlow supply entrance rampWish mostLeaving through off wishToLeave partsAt roundedUp largest
+jam = refl

@@ -1,0 +1,109 @@
+-- The largest number up to a bound that passes a test: what is known of it; and how off(y) and through(y) rise.
+use Prim.Native.Nat.{ℕ, zero, suc, _+_, _≤_, min}
+use mathlib.Core.Bool.{Bool, true, false}
+use mathlib.Core.Path.{_≡_, refl}
+use mathlib.Core.Logic.{_↔_}
+use native.Mathlib.Nat.{mul-le-mul-left, mul-le-mul-right}
+use native.Mathlib.Omega.{arith}
+use lib.Dec.{leb}
+use borrow.Author.Tests.{leb-true, leb-false}
+use Rattle.numbers.specs.Choice.{if_then_else_}
+use Rattle.steps.specs.Rules.{largest, off, through}
+
+-- ---- of any test
+chosen-most : (b x : ℕ) (t : Bool) → x ≤ b → (if t then suc b else x) ≤ suc b
+chosen-most b x true h = omega arith
+chosen-most b x false h = omega arith
+
+pub largest-most : (p : ℕ → Bool) (b : ℕ) → largest p b ≤ b
+unfolding largest
+largest-most p zero = omega arith
+largest-most p (suc b) = chosen-most b (largest p b) (p (suc b)) (largest-most p b)
+
+chosen-passes : (p : ℕ → Bool) (a b : ℕ) (t : Bool) → p a ≡ t → p b ≡ true → p (if t then a else b) ≡ true
+chosen-passes p a b true e h = e
+chosen-passes p a b false e h = h
+
+-- where zero passes, it passes
+pub largest-passes : (p : ℕ → Bool) (b : ℕ) → p 0 ≡ true → p (largest p b) ≡ true
+unfolding largest
+largest-passes p zero h = h
+largest-passes p (suc b) h = chosen-passes p (suc b) (largest p b) (p (suc b)) refl (largest-passes p b h)
+
+-- where the bound passes, it is the bound
+pub largest-whole : (p : ℕ → Bool) (b : ℕ) → p b ≡ true → largest p b ≡ b
+unfolding largest
+largest-whole p zero h = refl
+largest-whole p (suc b) h = rw h
+
+-- ---- of a test that is a bound
+one-more : (b m : ℕ) (t : Bool) → leb (suc b) m ≡ t → (if t then suc b else min b m) ≡ min (suc b) m
+one-more b m true e = omega (arith, leb-true (suc b) m e)
+one-more b m false e = omega (arith, leb-false (suc b) m e)
+
+-- where the test says that y is at most m, it is the lesser of the bound and m
+pub largest-min : (p : ℕ → Bool) (m b : ℕ) → ((y : ℕ) → p y ≡ leb y m) → largest p b ≡ min b m
+unfolding largest
+largest-min p m zero h = omega arith
+largest-min p m (suc b) h = rw (h (suc b), largest-min p m b h) (one-more b m (leb (suc b) m) refl)
+
+one-test : (a b c d : ℕ) (s t : Bool) → leb a b ≡ s → leb c d ≡ t → (a ≤ b) ↔ (c ≤ d) → s ≡ t
+one-test a b c d true true p q h = refl
+one-test a b c d false false p q h = refl
+one-test a b c d true false p q h = absurd (omega (arith, leb-false c d q, h .0 (leb-true a b p)))
+one-test a b c d false true p q h = absurd (omega (arith, leb-false a b p, h .1 (leb-true c d q)))
+
+-- two tests with one meaning are one
+pub leb-iff : (a b c d : ℕ) → (a ≤ b) ↔ (c ≤ d) → leb a b ≡ leb c d
+leb-iff a b c d h = one-test a b c d (leb a b) (leb c d) refl refl h
+
+-- ---- of a test by a function that starts at zero and rises by at most one
+reaches : (g : ℕ → ℕ) (f b x : ℕ) (t : Bool) →
+    leb (g (suc b)) f ≡ t →
+    f ≤ g (suc b) →
+    g (suc b) ≤ suc (g b) →
+    (f ≤ g b → g x ≡ f) →
+    g (if t then suc b else x) ≡ f
+reaches g f b x true e h s r = omega (arith, leb-true (g (suc b)) f e)
+reaches g f b x false e h s r = r (omega (arith, leb-false (g (suc b)) f e))
+
+-- such a function takes each value up to its last
+pub largest-reaches : (g : ℕ → ℕ) (f b : ℕ) →
+    g 0 ≡ 0 →
+    ((y : ℕ) → g (suc y) ≤ suc (g y)) →
+    f ≤ g b →
+    g (largest (λ y. leb (g y) f) b) ≡ f
+unfolding largest
+largest-reaches g f zero z s h = omega arith
+largest-reaches g f (suc b) z s h =
+    reaches g f b (largest (λ y. leb (g y) f) b) (leb (g (suc b)) f) refl h (s b) (largest-reaches g f b z s)
+
+-- ---- off(y) and through(y)
+pub off-zero : (s : ℕ) → off s 0 ≡ 0
+unfolding off
+off-zero s = omega arith
+
+pub off-rises : (s x y : ℕ) → x ≤ y → off s x ≤ off s y
+unfolding off
+off-rises s x y h = omega (arith, mul-le-mul-right s h)
+
+pub off-most : (s y : ℕ) → s ≤ 1000 → off s y ≤ y
+unfolding off
+off-most s y h = omega (arith, mul-le-mul-left y h)
+
+-- nobody is lost and nobody doubled in the split
+pub split-whole : (s y : ℕ) → s ≤ 1000 → off s y + through s y ≡ y
+unfolding through
+split-whole s y h = omega (arith, off-most s y h)
+
+pub through-zero : (s : ℕ) → through s 0 ≡ 0
+unfolding through
+through-zero s = omega arith
+
+pub through-rises-by-one : (s y : ℕ) → through s (suc y) ≤ suc (through s y)
+unfolding through
+through-rises-by-one s y = omega (arith, off-rises s y (suc y) (omega arith))
+
+pub through-most : (s y : ℕ) → through s y ≤ y
+unfolding through
+through-most s y = omega arith

@@ -1,0 +1,15 @@
+pub mod Rules
+pub mod Step
+pub mod Largest
+pub mod Closed
+pub mod Formulas
+pub mod Sums
+pub mod Laws
+pub mod Balance
+pub mod Bounds
+pub mod Claims
+pub mod Turn
+pub mod Pass
+pub mod Passing
+pub mod Level
+pub mod Examples

@@ -1,0 +1,58 @@
+-- Document 01, "One step": each rule as a formula of numbers, in the paper's order. Every difference is zero where it would be negative.
+use Prim.Native.Nat.{ℕ, zero, suc, _+_, _-_, _*_, _/_, min, max}
+use mathlib.Core.Bool.{Bool}
+use lib.Dec.{leb}
+use Rattle.numbers.specs.Choice.{if_then_else_}
+
+-- the largest y up to b that passes the test, by search from the top
+unfoldable pub largest : (ℕ → Bool) → ℕ → ℕ
+largest p zero = zero
+largest p (suc b) = if p (suc b) then suc b else largest p b
+
+-- a division rounded up
+unfoldable pub roundedUp : ℕ → ℕ → ℕ
+roundedUp a b = (a + (b - 1)) / b
+
+-- J = KJ × N × L / 22, the jam, from the jam density; Q = KC × N × L / 22, from the density at capacity
+unfoldable pub partsAt : (density lanes length : ℕ) → ℕ
+partsAt k n l = k * n * l / 22
+
+-- D, wish to leave: the least of n, C and n × 22 × V / L rounded up
+unfoldable pub wishToLeave : (parts capacity speed length : ℕ) → ℕ
+wishToLeave n c v l = min n (min c (roundedUp (n * 22 * v) l))
+
+-- off(y) = y × s / 1000
+unfoldable pub off : (share leaving : ℕ) → ℕ
+off s y = y * s / 1000
+
+-- through(y) = y − off(y)
+unfoldable pub through : (share leaving : ℕ) → ℕ
+through s y = y - off s y
+
+-- Y0: the largest y up to D with off(y) at most F
+unfoldable pub mostLeaving : (share offramp wish : ℕ) → ℕ
+mostLeaving s f d = largest (λ y. leb (off s y) f) d
+
+-- W, ramp wish: the least of q + ramp demand, R and the meter rate
+unfoldable pub rampWish : (queue demand onramp meter : ℕ) → ℕ
+rampWish q d r m = min (q + d) (min r m)
+
+-- E, entrance capacity: C × (100 − A) / 100 behind a queue, else C
+unfoldable pub entrance : (capacity drop : ℕ) (queued : Bool) → ℕ
+entrance c a t = if t then c * (100 - a) / 100 else c
+
+-- P, supply: the least of E, J − n and C × (J − n) / (J − Q)
+unfoldable pub supply : (entrance capacity jam critical parts : ℕ) → ℕ
+supply e c j q n = min e (min (j - n) (c * (j - n) / (j - q)))
+
+-- r, ramp flow: the smaller of W and the larger of (P − M, zero if negative) and P / (2 × N)
+unfoldable pub rampFlow : (supply lanes mainWish rampWish : ℕ) → ℕ
+rampFlow p n m w = min w (max (p - m) (p / (2 * n)))
+
+-- f, mainline flow: the smaller of M and P − r; at the exit, the smaller of M and X (P is X there, and r is zero)
+unfoldable pub mainFlow : (mainWish supply rampFlow : ℕ) → ℕ
+mainFlow m p r = min m (p - r)
+
+-- y, leaving: the largest y up to Y0 with through(y) at most f(i + 1)
+unfoldable pub leaving : (share most ahead : ℕ) → ℕ
+leaving s b f = largest (λ y. leb (through s y) f) b

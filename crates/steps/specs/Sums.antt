@@ -1,0 +1,54 @@
+-- Sums over the indexes below a number, and lists whose first elements are replaced.
+use Prim.Native.Nat.{ℕ, zero, suc, _+_, _*_, _≤_, _<_}
+use mathlib.Core.List.{List}
+use mathlib.Core.Path.{_≡_, refl, _∙_}
+use mathlib.Core.Logic.{⊎-elim}
+use native.Mathlib.Nat.{eq-or-lt-of-le}
+use native.Mathlib.Numerals.{add-one}
+use native.Mathlib.Omega.{arith}
+use lib.ListN.{length, getD, length-set}
+use lib.Seq.{getD-set-same, getD-set-other}
+use Rattle.steps.specs.Step.{replaced, sumTo}
+
+pub length-replaced : {A : Type 0} (g : ℕ → A) (k : ℕ) (xs : List A) → length (replaced g k xs) ≡ length xs
+unfolding replaced
+length-replaced g zero xs = refl
+length-replaced g (suc k) xs = simp length-set (length-replaced g k xs)
+
+-- the element at an index below the number is the function's value there
+pub replaced-at : {A : Type 0} (g : ℕ → A) (k i : ℕ) (xs : List A) (d : A) →
+    i < k →
+    k ≤ length xs →
+    getD (replaced g k xs) i d ≡ g i
+unfolding replaced
+replaced-at g zero i xs d h l = absurd (omega arith)
+replaced-at g (suc k) i xs d h l =
+    ⊎-elim
+    (λ e. rw e (getD-set-same (replaced g k xs) k (g k) d (omega (arith, length-replaced g k xs))))
+    (λ below.
+    getD-set-other (replaced g k xs) k i (g k) d (λ e. omega arith) ∙
+    replaced-at g k i xs d below (omega arith))
+    (eq-or-lt-of-le {n = i} {m = k} (omega arith))
+
+pub sum-more : (g : ℕ → ℕ) (k s x : ℕ) → s ≡ sumTo g k → x ≡ g k → s + x ≡ sumTo g (k + 1)
+unfolding sumTo
+sum-more g k s x e h = rw (add-one, e, h)
+
+pub sum-same : (g h : ℕ → ℕ) (k : ℕ) → ((i : ℕ) → i < k → g i ≡ h i) → sumTo g k ≡ sumTo h k
+unfolding sumTo
+sum-same g h zero e = refl
+sum-same g h (suc k) e = rw (sum-same g h k (λ i l. e i (omega arith)), e k (omega arith))
+
+pub sum-most : (g : ℕ → ℕ) (b k : ℕ) → ((i : ℕ) → i < k → g i ≤ b) → sumTo g k ≤ b * k
+unfolding sumTo
+sum-most g b zero h = omega arith
+sum-most g b (suc k) h = omega (arith, sum-most g b k (λ i l. h i (omega arith)), h k (omega arith))
+
+-- what each place passes on to the next cancels out
+pub telescope : (a b c d f : ℕ → ℕ) (k : ℕ) →
+    ((i : ℕ) → i < k → a i + b i + f (suc i) ≡ c i + d i + f i) →
+    sumTo a k + sumTo b k + f k ≡ sumTo c k + sumTo d k + f 0
+unfolding sumTo
+telescope a b c d f zero h = omega arith
+telescope a b c d f (suc k) h =
+    omega (arith, telescope a b c d f k (λ i l. h i (omega arith)), h k (omega arith))
