@@ -1,0 +1,9 @@
+pub mod Sound
+pub mod Bounds
+pub mod Cases
+pub mod Loop
+pub mod Trail
+pub mod View
+pub mod Played
+pub mod Lists
+pub mod Writings

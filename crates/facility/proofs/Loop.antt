@@ -1,0 +1,118 @@
+-- The loop of a run: after i steps the locals are the facility of i steps, and it is sound.
+use Prim.Native.Nat.{ℕ, _+_, _-_, _*_, _≤_, _<_}
+use mathlib.Core.Path.{_≡_, sym, ap, _∙_, subst}
+use native.Mathlib.Omega.{arith}
+use native.Mathlib.Numerals.{add-one}
+use native.Mathlib.Nat.{add-zero}
+use Rattle.sheets.specs.Good.{GoodRoad, GoodPeriod, good-road}
+use Rattle.steps.specs.declared.State.{State}
+use Rattle.steps.specs.declared.Stepped.{Stepped}
+use Rattle.steps.specs.Step.{stepped, arrivedOf, leftOf}
+use Rattle.steps.specs.Bounds.{Bounded, bounded-longer, arrived-most}
+use Rattle.facility.specs.declared.Facility.{Facility}
+use Rattle.facility.specs.Sound.{stepsBy}
+use Rattle.facility.specs.Ready.{Summed, Ready}
+use Rattle.facility.specs.Calls.{stepOf, stepsOf}
+use Rattle.facility.proofs.Sound.{good-sheet}
+use Rattle.facility.proofs.Bounds.{bounded-next, left-next}
+
+-- the facility with i steps more and these values
+abbrev pub at-turn : Facility → ℕ → State → ℕ → ℕ → ℕ → Facility
+at-turn f i state arrived left partsteps = record {
+  road = f .road;
+  period = f .period;
+  taken = f .taken;
+  made = f .made + i;
+  state = state;
+  arrived = arrived;
+  left = left;
+  partsteps = partsteps;
+}
+
+-- the steps made at a turn
+abbrev steps : Facility → ℕ → ℕ
+steps f i = stepsBy (f .taken) (f .made + i)
+
+pub record Turn (f : Facility) (k i : ℕ) (state : State) (arrived left partsteps : ℕ) : Type 0 where
+  pub made : at-turn f i state arrived left partsteps ≡ stepsOf i f
+  pub most : i ≤ k
+  pub bounds : Bounded (f .road) (steps f i) state
+  pub sums : Summed (steps f i) arrived left partsteps
+
+module _ (f : Facility) (k : ℕ) (ready : Ready f k) where
+  pub road-good : GoodRoad (f .road)
+  road-good = good-road (f .road) (ready .is .road)
+
+  pub sheet-good : GoodPeriod (f .road) (f .period)
+  sheet-good = good-sheet (f .taken) (f .road) (f .period) road-good (ready .is .sheet) (ready .some)
+
+  few : (i : ℕ) → i < k → steps f i < 5760
+  unfolding stepsBy
+  few i h = omega (arith, ready .is .few, ready .room)
+
+  one-more : (i : ℕ) → i < k → steps f (i + 1) ≡ steps f i + 1
+  unfolding stepsBy
+  one-more i h = omega (arith, ready .some)
+
+  pub turn-start : Turn f k 0 (f .state) (f .arrived) (f .left) (f .partsteps)
+  unfolding stepsOf
+  turn-start = record {
+    made = rw add-zero;
+    most = omega arith;
+    bounds = rw add-zero (ready .is .bounds);
+    sums = rw add-zero (ready .is .sums);
+  }
+
+  module _ (i : ℕ) (state : State) (arrived left partsteps : ℕ) (t : Turn f k i state arrived left partsteps) (h : i < k) where
+    -- what the step asks
+    pub turn-bounds : Bounded (f .road) 5760 state
+    turn-bounds = bounded-longer (f .road) (steps f i) 5760 state (omega (arith, few i h)) (t .bounds)
+
+    abbrev comes : ℕ
+    comes = arrivedOf (f .road) (f .period)
+
+    abbrev goes : ℕ
+    goes = leftOf (f .road) (stepped (f .road) (f .period) state)
+
+    pub comes-most : comes ≤ 660000
+    comes-most = arrived-most (f .road) (f .period) road-good sheet-good
+
+    pub goes-most : goes ≤ 660000
+    goes-most = left-next (f .road) (f .period) state road-good sheet-good
+
+    pub turn-sums : (arrived + comes ≤ 3801600000) × (left + goes ≤ 3801600000) × (partsteps + (arrived + comes - (left + goes)) ≤ 3801600000 * 5760)
+    turn-sums =
+        let s = t .sums in
+        let n = few i h in (
+          omega (arith, s .arrived-most, comes-most),
+          omega (arith, s .left-most, goes-most),
+          omega (arith, s .partsteps-most, s .arrived-most, comes-most),
+        )
+
+    pub turn-again : Turn f k (i + 1) (stepped (f .road) (f .period) state) (arrived + comes) (left + goes) (partsteps + (arrived + comes - (left + goes)))
+    unfolding stepOf stepsOf
+    turn-again =
+        let s = t .sums in
+        let n = few i h in
+        let e : f .made + (i + 1) ≡ f .made + i + 1 = omega arith in
+        record {
+          made = ap (λ (m : ℕ). record { road = f .road; period = f .period; taken = f .taken; made = m; state = stepped (f .road) (f .period) state; arrived = arrived + comes; left = left + goes; partsteps = partsteps + (arrived + comes - (left + goes)) }) e ∙ ap stepOf (t .made) ∙ ap (λ (j : ℕ). stepsOf j f) (sym (add-one i));
+          most = omega arith;
+          bounds = rw (one-more i h) (bounded-next (f .road) (f .period) state road-good sheet-good (steps f i) (t .bounds));
+          sums = rw (one-more i h) (record {
+            arrived-most = omega (arith, s .arrived-most, comes-most);
+            left-most = omega (arith, s .left-most, goes-most);
+            partsteps-most = omega (arith, s .partsteps-most, s .arrived-most, comes-most);
+          });
+        }
+
+    -- the same of what the calls gave
+    pub turn-moved : (s : Stepped) → s ≡ record { state = stepped (f .road) (f .period) state; left = goes } → (a d : ℕ) → a ≡ comes → d ≡ arrived + a - (left + s .left)
+        → Turn f k (i + 1) (s .state) (arrived + a) (left + s .left) (partsteps + d)
+    turn-moved s es a d ea ed = rw (ed, ea, es) turn-again
+
+  pub turn-end : (i : ℕ) (state : State) (arrived left partsteps : ℕ) → Turn f k i state arrived left partsteps → k ≤ i
+      → at-turn f k state arrived left partsteps ≡ stepsOf k f
+  turn-end i state arrived left partsteps t h =
+      let e : i ≡ k = omega (arith, t .most) in
+      subst (λ (j : ℕ). at-turn f j state arrived left partsteps ≡ stepsOf j f) e (t .made)

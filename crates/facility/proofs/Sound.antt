@@ -1,0 +1,77 @@
+-- The test at the door and what it says, both ways.
+use Prim.Native.Nat.{ℕ, _*_, _<_}
+use mathlib.Core.Bool.{Bool, true, false, _&&_, _||_}
+use mathlib.Core.Path.{_≡_, refl}
+use mathlib.Core.List.{List}
+use native.Mathlib.Omega.{arith}
+use lib.Dec.{leb, eqb}
+use borrow.Author.Tests.{leb-true, le-leb, eqb-true}
+use Rattle.sheets.specs.Allowed.{all-below, all-at, all-by, both, roadAllowed, periodAllowed}
+use Rattle.sheets.specs.Good.{GoodRoad, GoodPeriod, good-period}
+use Rattle.steps.specs.declared.State.{State}
+use Rattle.steps.specs.Step.{cellIn, segments}
+use Rattle.steps.specs.Bounds.{Bounded}
+use Rattle.facility.specs.declared.Facility.{Facility}
+use Rattle.facility.specs.Ready.{Summed, Sound}
+use Rattle.facility.specs.Sound.{stepsBy, counted, sheeted, heldIn, held, summed, sound}
+
+-- ---- the parts of the test
+pub held-bounded : (road : List ℕ) (t : ℕ) (state : State) → held (segments road) t state ≡ true → Bounded road t state
+unfolding held heldIn
+held-bounded road t state e =
+    let b = both (all-below (λ i. heldIn t (cellIn state i)) (segments road)) (leb (state .origin) (20000 * t)) e in
+    let at : (i : ℕ) → i < segments road → (leb (cellIn state i .n) 2880000 ≡ true) × (leb (cellIn state i .q) (10000 * t) ≡ true) =
+    λ i h. both _ _ (all-at (λ i. heldIn t (cellIn state i)) (segments road) i (b .0) h) in
+    record { parts = λ i h. leb-true _ _ (at i h .0); queue = λ i h. leb-true _ _ (at i h .1); origin = leb-true _ _ (b .1) }
+
+pub bounded-held : (road : List ℕ) (t : ℕ) (state : State) → Bounded road t state → held (segments road) t state ≡ true
+unfolding held heldIn
+bounded-held road t state b =
+    let each : (i : ℕ) → i < segments road → heldIn t (cellIn state i) ≡ true = λ i h. rw (le-leb _ _ (b .parts i h), le-leb _ _ (b .queue i h)) in
+    rw (all-by (λ i. heldIn t (cellIn state i)) (segments road) each, le-leb _ _ (b .origin))
+
+pub summed-in : (t a l p : ℕ) → summed t a l p ≡ true → Summed t a l p
+unfolding summed
+summed-in t a l p e =
+    let x = both (leb a (660000 * t)) _ e in
+    let y = both (leb l (660000 * t)) (leb p (3801600000 * t)) (x .1) in
+    record { arrived-most = leb-true _ _ (x .0); left-most = leb-true _ _ (y .0); partsteps-most = leb-true _ _ (y .1) }
+
+pub in-summed : (t a l p : ℕ) → Summed t a l p → summed t a l p ≡ true
+unfolding summed
+in-summed t a l p s = rw (le-leb _ _ (s .arrived-most), le-leb _ _ (s .left-most), le-leb _ _ (s .partsteps-most))
+
+-- ---- the whole test
+pub is-sound : (f : Facility) → sound f ≡ true → Sound f
+unfolding sound counted
+is-sound f e =
+    let a = both (roadAllowed (f .road)) _ e in
+    let b = both (leb (f .taken) 96 && leb (f .made) 60) _ (a .1) in
+    let n = both (leb (f .taken) 96) (leb (f .made) 60) (b .0) in
+    let c = both (sheeted (f .taken) (f .road) (f .period)) _ (b .1) in
+    let d = both (held (segments (f .road)) (stepsBy (f .taken) (f .made)) (f .state)) _ (c .1) in
+    record {
+      road = a .0;
+      few = leb-true _ _ (n .0);
+      short = leb-true _ _ (n .1);
+      sheet = c .0;
+      bounds = held-bounded _ _ _ (d .0);
+      sums = summed-in _ _ _ _ (d .1);
+    }
+
+pub sound-is : (f : Facility) → Sound f → sound f ≡ true
+unfolding sound counted
+sound-is f s =
+    rw (s .road, le-leb _ _ (s .few), le-leb _ _ (s .short), s .sheet, bounded-held _ _ _ (s .bounds), in-summed _ _ _ _ (s .sums))
+
+-- the sheet in force, once one is taken
+sheet-by : (road period : List ℕ) (taken : ℕ) (t : Bool) → eqb taken 0 ≡ t → (t || periodAllowed road period) ≡ true → 0 < taken → periodAllowed road period ≡ true
+sheet-by road period taken true q e h = absurd (omega (arith, eqb-true taken 0 q))
+sheet-by road period taken false q e h = e
+
+pub in-force : (taken : ℕ) (road period : List ℕ) → sheeted taken road period ≡ true → 0 < taken → periodAllowed road period ≡ true
+unfolding sheeted
+in-force taken road period e h = sheet-by road period taken (eqb taken 0) refl e h
+
+pub good-sheet : (taken : ℕ) (road period : List ℕ) → GoodRoad road → sheeted taken road period ≡ true → 0 < taken → GoodPeriod road period
+good-sheet taken road period g e h = good-period road period g (in-force taken road period e h)

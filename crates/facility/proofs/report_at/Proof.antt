@@ -1,0 +1,48 @@
+-- The cell of the segment, and its letter.
+use mathlib.Core.Path.{ap}
+use native.Mathlib.Omega.{arith}
+use Rattle.steps.specs.Step.{cellIn, lanesAt}
+use Rattle.facility.specs.Calls.{reported, levelAt}
+use borrow.Author.Needs.{needs}
+use Rattle.facility.proofs.report_at.Statement.{statement}
+use Rattle.facility.proofs.report_at.Tie as tie
+
+mul-cell : tie.Need-mul-cell
+mul-cell c = omega (arith, c .before .before .pre .0 .segments .1, c .before .before .pre .1)
+
+element-copy-out-cell : tie.Need-element-copy-out-cell
+element-copy-out-cell c = omega (arith, c .before .before .pre .0 .segments .1, c .before .before .pre .1)
+
+segment-at-requires : tie.Need-segment-at-requires
+segment-at-requires c κs = omega (arith, c .before .before .before .before .pre .0 .segments .1, c .before .before .before .before .pre .1)
+
+cast-level-of : tie.Need-cast-level-of
+cast-level-of c =
+    let a = c .before .before .before .before .before .before in
+    rw (c .before .segment-at .ensures) (omega (arith, a .pre .0 .segment (a .args .i) (a .pre .1) .length .1))
+
+cast-level-of-2 : tie.Need-cast-level-of-2
+cast-level-of-2 c =
+    let a = c .before .before .before .before .before .before .before in
+    rw (c .before .before .segment-at .ensures) (omega (arith, a .pre .0 .segment (a .args .i) (a .pre .1) .lanes .1))
+
+level-of-requires : tie.Need-level-of-requires
+level-of-requires c κs = search needs
+
+returns : tie.Need-returns
+unfolding levelAt lanesAt
+returns c =
+    let a = c .before .before .before .before .before .before .before .before .args in
+    ap (reported (cellIn (a .f .state) (a .i))) (rw (c .before .before .before .segment-at .ensures) at (c .level-of .ensures))
+
+pub report-at-spec : {M : Type 1} → statement M
+report-at-spec =
+    tie.close
+    (tie.spec
+    mul-cell
+    element-copy-out-cell
+    segment-at-requires
+    cast-level-of
+    cast-level-of-2
+    level-of-requires
+    returns)

@@ -1,0 +1,429 @@
+// The calls on a facility: a road with its state, its sheet in force and its sums, by value.
+use numbers::Written;
+use steps::Cell;
+use steps::Level;
+use steps::State;
+ghost use mathlib.Core.Path.{_≡_};
+ghost use mathlib.Core.Bool.{true};
+ghost use Prim.Native.Nat.{_+_, _-_, _≤_, _<_};
+ghost use Rattle.numbers.specs.Writing.{writing};
+ghost use Rattle.sheets.specs.Good.{GoodRoad};
+ghost use Rattle.sheets.specs.Read.{readPeriod};
+ghost use Rattle.steps.specs.Step.{segments, cellIn};
+ghost use Rattle.facility.specs.Sound.{stepsBy, counted, sheeted, heldIn, held, summed, sound};
+ghost use Rattle.facility.specs.Calls.{freshOn, refused, layOf, unfinished, withSheet, takenBy, takeOf, stepsOf, runOf, reported, noReport, levelAt, reportOf, totalsOf, writeRoadOf, roadBuffer, writePeriodOf, periodBuffer};
+ghost use Rattle.facility.specs.Ready.{Ready};
+
+// A road that is laid, the period sheet in force with the sheets taken so far and the steps made under the last, the state of the
+// step rules, and the sums: arrived, left and part-steps.
+pub struct Facility {
+    pub road: [u32; 452],
+    pub period: [u32; 452],
+    pub taken: u32,
+    pub made: u32,
+    pub state: State,
+    pub arrived: u64,
+    pub left: u64,
+    pub partsteps: u64,
+}
+
+// What laying, taking and running give: refusal is 0, or its number with its offset; used counts the bytes read.
+pub struct Reply {
+    pub refusal: u8,
+    pub offset: usize,
+    pub used: usize,
+    pub facility: Facility,
+}
+
+// A segment report: n, q, the last step's f, r, off(y) and y, and the level letter.
+pub struct SegmentReport {
+    pub refusal: u8,
+    pub n: u32,
+    pub q: u32,
+    pub main: u32,
+    pub ramp: u32,
+    pub off: u32,
+    pub out: u32,
+    pub level: Level,
+}
+
+// The totals: arrived, left, stored and part-steps.
+pub struct Sums {
+    pub refusal: u8,
+    pub arrived: u64,
+    pub left: u64,
+    pub stored: u64,
+    pub partsteps: u64,
+}
+
+fn wide(x: u32) -> u64
+    ensures { λ r. ⌜ r ≡ x ⌝ }
+{
+    x as u64
+}
+
+// The difference, zero where it would be negative.
+fn less(a: u64, b: u64) -> u64
+    ensures { λ r. ⌜ r ≡ a - b ⌝ }
+{
+    if a <= b { 0 } else { a - b }
+}
+
+// The steps made so far.
+fn steps_by(taken: u32, made: u32) -> u64
+    requires { ⌜ (taken ≤ 96) × (made ≤ 60) ⌝ }
+    ensures { λ r. ⌜ (r ≡ stepsBy taken made) × (r ≤ 5760) ⌝ }
+{
+    less(60 * wide(taken) + wide(made), 60)
+}
+
+fn is_counted(taken: u32, made: u32) -> bool
+    ensures { λ r. ⌜ r ≡ counted taken made ⌝ }
+{
+    (taken <= 96) & (made <= 60)
+}
+
+fn is_sheeted(taken: u32, road: [u32; 452], period: [u32; 452]) -> bool
+    ensures { λ r. ⌜ r ≡ sheeted taken road period ⌝ }
+{
+    if taken == 0 {
+        return true;
+    }
+    sheets::is_period(road, period)
+}
+
+fn is_held_in(t: u64, cell: Cell) -> bool
+    requires { ⌜ t ≤ 5760 ⌝ }
+    ensures { λ r. ⌜ r ≡ heldIn t cell ⌝ }
+{
+    (cell.n <= 2880000) & (wide(cell.q) <= 10000 * t)
+}
+
+fn is_held(ns: usize, t: u64, state: State) -> bool
+    requires { ⌜ (ns ≤ 64) × (t ≤ 5760) ⌝ }
+    ensures { λ r. ⌜ r ≡ held ns t state ⌝ }
+{
+    let mut ok = true;
+    let mut i: usize = 0;
+    while i < ns {
+        ok = ok & is_held_in(t, state.cells[i]);
+        i += 1;
+    }
+    ok & (wide(state.origin) <= 20000 * t)
+}
+
+fn is_summed(t: u64, arrived: u64, left: u64, partsteps: u64) -> bool
+    requires { ⌜ t ≤ 5760 ⌝ }
+    ensures { λ r. ⌜ r ≡ summed t arrived left partsteps ⌝ }
+{
+    (arrived <= 660000 * t) & ((left <= 660000 * t) & (partsteps <= 3801600000 * t))
+}
+
+// Whether a laying and calls can have produced the facility; any other is the empty one.
+fn is_sound(f: Facility) -> bool
+    ensures { λ r. ⌜ r ≡ sound f ⌝ }
+{
+    let road = f.road;
+    let period = f.period;
+    let state = f.state;
+    if !sheets::is_road(road) {
+        return false;
+    }
+    if !is_counted(f.taken, f.made) {
+        return false;
+    }
+    if !is_sheeted(f.taken, road, period) {
+        return false;
+    }
+    let t = steps_by(f.taken, f.made);
+    if !is_held(road[0] as usize, t, state) {
+        return false;
+    }
+    is_summed(t, f.arrived, f.left, f.partsteps)
+}
+
+// A road just laid.
+fn fresh_on(road: [u32; 452]) -> Facility
+    ensures { λ r. ⌜ r ≡ freshOn road ⌝ }
+{
+    let none = [0u32; 452];
+    let state = steps::fresh();
+    Facility {
+        road,
+        period: none,
+        taken: 0,
+        made: 0,
+        state,
+        arrived: 0,
+        left: 0,
+        partsteps: 0,
+    }
+}
+
+// A refusal without an offset: the facility comes back as it went in.
+fn refuse(f: Facility, number: u8) -> Reply
+    ensures { λ r. ⌜ r ≡ refused f number 0 ⌝ }
+{
+    Reply {
+        refusal: number,
+        offset: 0,
+        used: 0,
+        facility: f,
+    }
+}
+
+// Lays a road.
+pub fn lay(bytes: &[u8]) -> Reply
+    ensures { λ r. ⌜ r ≡ layOf (now (bytes .entry)) ⌝ }
+{
+    let sheet = sheets::read_road(bytes);
+    let row = sheet.row;
+    if sheet.refusal == 0 {
+        let laid = fresh_on(row);
+        return Reply {
+            refusal: 0,
+            offset: 0,
+            used: sheet.used,
+            facility: laid,
+        };
+    }
+    let none = [0u32; 452];
+    let empty = fresh_on(none);
+    Reply {
+        refusal: sheet.refusal,
+        offset: sheet.offset,
+        used: 0,
+        facility: empty,
+    }
+}
+
+fn is_unfinished(taken: u32, made: u32) -> bool
+    ensures { λ r. ⌜ r ≡ unfinished taken made ⌝ }
+{
+    (0 < taken) & (made < 60)
+}
+
+fn with_sheet(f: Facility, period: [u32; 452]) -> Facility
+    requires { ⌜ f .taken < 96 ⌝ }
+    ensures { λ r. ⌜ r ≡ withSheet f period ⌝ }
+{
+    let road = f.road;
+    let state = f.state;
+    Facility {
+        road,
+        period,
+        taken: f.taken + 1,
+        made: 0,
+        state,
+        arrived: f.arrived,
+        left: f.left,
+        partsteps: f.partsteps,
+    }
+}
+
+// Reads the sheet and puts it in force.
+fn take_sheet(f: Facility, bytes: &[u8]) -> Reply
+    requires { ⌜ f .taken < 96 ⌝ }
+    ensures { λ r. ⌜ r ≡ takenBy f (readPeriod (f .road) (now (bytes .entry))) ⌝ }
+{
+    let road = f.road;
+    let sheet = sheets::read_period(bytes, road);
+    let row = sheet.row;
+    if sheet.refusal == 0 {
+        let next = with_sheet(f, row);
+        return Reply {
+            refusal: 0,
+            offset: 0,
+            used: sheet.used,
+            facility: next,
+        };
+    }
+    Reply {
+        refusal: sheet.refusal,
+        offset: sheet.offset,
+        used: 0,
+        facility: f,
+    }
+}
+
+// Takes a period sheet.
+pub fn take(f: Facility, bytes: &[u8]) -> Reply
+    ensures { λ r. ⌜ r ≡ takeOf f (now (bytes .entry)) ⌝ }
+{
+    if !is_sound(f) {
+        return refuse(f, 9);
+    }
+    if is_unfinished(f.taken, f.made) {
+        return refuse(f, 12);
+    }
+    if 96 <= f.taken {
+        return refuse(f, 13);
+    }
+    take_sheet(f, bytes)
+}
+
+// Makes k steps under the sheet in force.
+fn make_steps(f: Facility, k: u32) -> Facility
+    requires { ⌜ Ready f k ⌝ }
+    ensures { λ r. ⌜ r ≡ stepsOf k f ⌝ }
+{
+    let road = f.road;
+    let period = f.period;
+    let arrives = steps::arrived(&road, &period);
+    let mut state = f.state;
+    let mut arrived = f.arrived;
+    let mut left = f.left;
+    let mut partsteps = f.partsteps;
+    let mut i: u32 = 0;
+    while i < k {
+        let next = steps::step(&road, &period, state);
+        let after = next.state;
+        state = after;
+        arrived += arrives;
+        left += next.left;
+        partsteps += less(arrived, left);
+        i += 1;
+    }
+    Facility {
+        road,
+        period,
+        taken: f.taken,
+        made: f.made + k,
+        state,
+        arrived,
+        left,
+        partsteps,
+    }
+}
+
+// Runs k steps.
+pub fn run(f: Facility, k: u32) -> Reply
+    ensures { λ r. ⌜ r ≡ runOf f k ⌝ }
+{
+    if !is_sound(f) {
+        return refuse(f, 9);
+    }
+    if k < 1 {
+        return refuse(f, 5);
+    }
+    if 60 < k {
+        return refuse(f, 5);
+    }
+    if f.taken == 0 {
+        return refuse(f, 10);
+    }
+    if 60 - f.made < k {
+        return refuse(f, 11);
+    }
+    let g = make_steps(f, k);
+    Reply {
+        refusal: 0,
+        offset: 0,
+        used: 0,
+        facility: g,
+    }
+}
+
+// A refused report: every number 0 and the letter A.
+fn no_report(number: u8) -> SegmentReport
+    ensures { λ r. ⌜ r ≡ noReport number ⌝ }
+{
+    SegmentReport {
+        refusal: number,
+        n: 0,
+        q: 0,
+        main: 0,
+        ramp: 0,
+        off: 0,
+        out: 0,
+        level: Level::A,
+    }
+}
+
+// The report of segment i, counted from 0.
+fn report_at(f: Facility, i: usize) -> SegmentReport
+    requires { ⌜ GoodRoad (f .road) × (i < segments (f .road)) ⌝ }
+    ensures { λ r. ⌜ r ≡ reported (cellIn (f .state) i) (levelAt f i) ⌝ }
+{
+    let road = f.road;
+    let state = f.state;
+    let cell = state.cells[i];
+    let seg = sheets::segment_at(&road, i);
+    let level = steps::level_of(cell.n, seg.length as u32, seg.lanes as u32);
+    SegmentReport {
+        refusal: 0,
+        n: cell.n,
+        q: cell.q,
+        main: cell.main,
+        ramp: cell.ramp,
+        off: cell.off,
+        out: cell.out,
+        level,
+    }
+}
+
+// Reports on a segment, counted from 1.
+pub fn report(f: Facility, segment: u32) -> SegmentReport
+    ensures { λ r. ⌜ r ≡ reportOf f segment ⌝ }
+{
+    if !is_sound(f) {
+        return no_report(9);
+    }
+    let road = f.road;
+    if segment < 1 {
+        return no_report(6);
+    }
+    if road[0] < segment {
+        return no_report(6);
+    }
+    report_at(f, (segment - 1) as usize)
+}
+
+// The totals.
+pub fn totals(f: Facility) -> Sums
+    ensures { λ r. ⌜ r ≡ totalsOf f ⌝ }
+{
+    if !is_sound(f) {
+        return Sums {
+            refusal: 9,
+            arrived: 0,
+            left: 0,
+            stored: 0,
+            partsteps: 0,
+        };
+    }
+    let road = f.road;
+    let state = f.state;
+    Sums {
+        refusal: 0,
+        arrived: f.arrived,
+        left: f.left,
+        stored: steps::stored(&road, state),
+        partsteps: f.partsteps,
+    }
+}
+
+// Writes the road into a lent buffer from a place.
+pub fn write_road(f: Facility, buffer: &mut [u8], at: usize) -> Written
+    ensures { λ r. ⌜ (writing r ≡ writeRoadOf f (now (buffer .entry)) at) × (now (buffer .exit) ≡ roadBuffer f (now (buffer .entry)) at) ⌝ }
+{
+    if !is_sound(f) {
+        return Written::Refused(9);
+    }
+    let road = f.road;
+    sheets::write_road(buffer, at, road)
+}
+
+// Writes the period in force into a lent buffer from a place.
+pub fn write_period(f: Facility, buffer: &mut [u8], at: usize) -> Written
+    ensures { λ r. ⌜ (writing r ≡ writePeriodOf f (now (buffer .entry)) at) × (now (buffer .exit) ≡ periodBuffer f (now (buffer .entry)) at) ⌝ }
+{
+    if !is_sound(f) {
+        return Written::Refused(9);
+    }
+    if f.taken == 0 {
+        return Written::Refused(10);
+    }
+    let period = f.period;
+    sheets::write_period(buffer, at, period)
+}
