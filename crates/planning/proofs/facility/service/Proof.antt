@@ -1,0 +1,37 @@
+-- The test that led to each letter.
+use Rattle.planning.specs.Facility.{letterOf}
+use Rattle.planning.proofs.Literals.{whole-11, whole-18, whole-26, whole-35, whole-45}
+use Rattle.planning.proofs.facility.service.Statement.{statement}
+use Rattle.planning.proofs.facility.service.Tie as tie
+
+returns : tie.Need-returns
+unfolding letterOf
+returns c = simp (c .if1 .taken)
+
+returns-2 : tie.Need-returns-2
+unfolding letterOf
+returns-2 c = simp (c .before .if1 .left, rw whole-11 at (c .if2 .taken))
+
+returns-3 : tie.Need-returns-3
+unfolding letterOf
+returns-3 c = simp (c .before .before .if1 .left, rw whole-11 at (c .before .if2 .left), rw whole-18 at (c .if3 .taken))
+
+returns-4 : tie.Need-returns-4
+unfolding letterOf
+returns-4 c = simp (c .before .before .before .if1 .left, rw whole-11 at (c .before .before .if2 .left), rw whole-18 at (c .before .if3 .left), rw whole-26 at (c .if4 .taken))
+
+returns-5 : tie.Need-returns-5
+unfolding letterOf
+returns-5 c = simp (c .before .before .before .before .if1 .left, rw whole-11 at (c .before .before .before .if2 .left), rw whole-18 at (c .before .before .if3 .left), rw whole-26 at (c .before .if4 .left), rw whole-35 at (c .if5 .taken))
+
+returns-6 : tie.Need-returns-6
+unfolding letterOf
+returns-6 c = simp (c .before .before .before .before .before .if1 .left, rw whole-11 at (c .before .before .before .before .if2 .left), rw whole-18 at (c .before .before .before .if3 .left), rw whole-26 at (c .before .before .if4 .left), rw whole-35 at (c .before .if5 .left), rw whole-45 at (c .if6 .taken))
+
+returns-7 : tie.Need-returns-7
+unfolding letterOf
+returns-7 c = simp (c .before .before .before .before .before .if1 .left, rw whole-11 at (c .before .before .before .before .if2 .left), rw whole-18 at (c .before .before .before .if3 .left), rw whole-26 at (c .before .before .if4 .left), rw whole-35 at (c .before .if5 .left), rw whole-45 at (c .if6 .left))
+
+pub service-spec : {M : Type 1} → statement M
+service-spec =
+    tie.close (tie.spec returns returns-2 returns-3 returns-4 returns-5 returns-6 returns-7)

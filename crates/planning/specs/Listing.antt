@@ -1,0 +1,13 @@
+-- Values one after the other: the section answers, the demands and the new carryover are each a function of the section's place.
+use Prim.Native.Nat.{ℕ, zero, suc, _-_}
+use mathlib.Core.List.{List, [], _∷_, _++_}
+use lib.ListN.{replicate}
+
+-- g 0, g 1, .. up to n values
+unfoldable pub first : {A : Type 0} → ℕ → (ℕ → A) → List A
+first zero g = []
+first (suc n) g = first n g ++ (g n ∷ [])
+
+-- the same, and z after them, to `size` places
+abbrev pub filled : {A : Type 0} → ℕ → ℕ → (ℕ → A) → A → List A
+filled size n g z = first n g ++ replicate (size - n) z

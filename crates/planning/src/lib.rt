@@ -1,0 +1,124 @@
+// The planning sheet: from a sheet's bytes and the carryover of the period before to each section's answer, the facility's density and
+// level of service, and the carryover of this period.
+mod demand;
+mod facility;
+mod section;
+mod sheet;
+mod table;
+
+ghost use mathlib.Core.Path.{_≡_};
+ghost use Prim.Native.Nat.{ℕ, _≤_};
+ghost use mathlib.Core.List.{List};
+ghost use lib.ListN.{length};
+ghost use Rattle.planning.specs.Sound.{AllSound};
+ghost use Rattle.planning.specs.Plan.{planned, refusedPlan, acceptedPlan, planOf};
+
+// A section's answer. Rates are seconds a mile, speed is miles an hour, density is vehicles a mile and lane.
+pub enum Answer {
+    Free {
+        speed: f64,
+        density: f64,
+    },
+    Slowed {
+        under: f64,
+        speed: f64,
+        density: f64,
+    },
+    Queued {
+        under: f64,
+        over: f64,
+        speed: f64,
+        density: f64,
+    },
+}
+
+pub struct Done {
+    pub answer: Answer,
+}
+
+// The level of service.
+pub enum Service {
+    A,
+    B,
+    C,
+    D,
+    E,
+    F,
+}
+
+// What a sheet gives: a refusal's number, 0 for none, and its offset; the bytes used; an answer for each section, free with zeros past
+// the section count; the facility's density and letter.
+pub struct Planned {
+    pub refusal: u8,
+    pub offset: usize,
+    pub used: usize,
+    pub answers: [Done; 64],
+    pub density: f64,
+    pub letter: Service,
+}
+
+fn refused(refusal: u8, offset: usize) -> Planned
+    ensures { λ r. ⌜ ((slice : List ℕ) → planned r slice ≡ refusedPlan refusal offset slice) ⌝ }
+{
+    Planned {
+        refusal,
+        offset,
+        used: 0,
+        answers: [Done {
+            answer: Answer::Free {
+                speed: 0.0,
+                density: 0.0,
+            },
+        }; 64],
+        density: 0.0,
+        letter: Service::A,
+    }
+}
+
+// The plan of n sections under demands that every section may have.
+fn accepted(
+    n: usize,
+    row: [u32; 384],
+    used: usize,
+    each: [u32; 64],
+    carryover: &mut [u32],
+) -> Planned
+    requires { ⌜ (n ≤ 64) × (length (now carryover) ≡ n) × AllSound n row ⌝ }
+    ensures { λ r. ⌜ planned r (now (carryover .exit)) ≡ acceptedPlan n row used each ⌝ }
+{
+    let solved = facility::solve(n, row, each);
+    let answers = solved.answers;
+    let totals = solved.totals;
+    let density = facility::density(totals);
+    let letter = facility::service(density, totals.queued);
+    demand::carry(n, row, each, carryover);
+    Planned {
+        refusal: 0,
+        offset: 0,
+        used,
+        answers,
+        density,
+        letter,
+    }
+}
+
+// Works a sheet out. The new carryover replaces the old in the slice, unless the sheet is refused.
+pub fn plan(bytes: &[u8], carryover: &mut [u32]) -> Planned
+    ensures { λ r. ⌜ planned r (now (carryover .exit)) ≡ planOf (now (bytes .entry)) (now (carryover .entry)) ⌝ }
+{
+    let got = sheet::read_sheet(bytes);
+    if !got.taken {
+        return refused(got.refusal, got.offset);
+    }
+    let n = got.count;
+    let row = got.row;
+    if carryover.len() != n {
+        return refused(8, 0);
+    }
+    let held = demand::demands_of(n, row, &carryover[..]);
+    if !held.fit {
+        return refused(15, 0);
+    }
+    let each = held.each;
+    accepted(n, row, got.used, each, carryover)
+}
