@@ -8,13 +8,12 @@ use Rattle.sheets.specs.Good.{GoodRoad, GoodPeriod, good-road}
 use Rattle.steps.specs.declared.State.{State}
 use Rattle.steps.specs.declared.Stepped.{Stepped}
 use Rattle.steps.specs.Step.{stepped, arrivedOf, leftOf}
-use Rattle.steps.specs.Bounds.{Bounded, bounded-longer, arrived-most}
+use Rattle.steps.specs.Bounds.{Bounded, bounded-longer, bounded-after, arrived-most, left-most}
 use Rattle.facility.specs.declared.Facility.{Facility}
 use Rattle.facility.specs.Sound.{stepsBy}
 use Rattle.facility.specs.Ready.{Summed, Ready}
 use Rattle.facility.specs.Calls.{stepOf, stepsOf}
 use Rattle.facility.proofs.Sound.{good-sheet}
-use Rattle.facility.proofs.Bounds.{bounded-next, left-next}
 
 -- the facility with i steps more and these values
 abbrev pub at-turn : Facility → ℕ → State → ℕ → ℕ → ℕ → Facility
@@ -78,7 +77,7 @@ module _ (f : Facility) (k : ℕ) (ready : Ready f k) where
     comes-most = arrived-most (f .road) (f .period) road-good sheet-good
 
     pub goes-most : goes ≤ 660000
-    goes-most = left-next (f .road) (f .period) state road-good sheet-good
+    goes-most = left-most (f .road) (f .period) state road-good sheet-good
 
     pub turn-sums : (arrived + comes ≤ 3801600000) × (left + goes ≤ 3801600000) × (partsteps + (arrived + comes - (left + goes)) ≤ 3801600000 * 5760)
     turn-sums =
@@ -98,7 +97,7 @@ module _ (f : Facility) (k : ℕ) (ready : Ready f k) where
         record {
           made = ap (λ (m : ℕ). record { road = f .road; period = f .period; taken = f .taken; made = m; state = stepped (f .road) (f .period) state; arrived = arrived + comes; left = left + goes; partsteps = partsteps + (arrived + comes - (left + goes)) }) e ∙ ap stepOf (t .made) ∙ ap (λ (j : ℕ). stepsOf j f) (sym (add-one i));
           most = omega arith;
-          bounds = rw (one-more i h) (bounded-next (f .road) (f .period) state road-good sheet-good (steps f i) (t .bounds));
+          bounds = rw (one-more i h) (bounded-after (f .road) (f .period) state road-good sheet-good (steps f i) (t .bounds));
           sums = rw (one-more i h) (record {
             arrived-most = omega (arith, s .arrived-most, comes-most);
             left-most = omega (arith, s .left-most, goes-most);

@@ -4,6 +4,7 @@ use mathlib.Core.Bool.{Bool, true, false, _&&_, _||_}
 use mathlib.Core.Path.{_≡_, refl, ap, _∙_}
 use mathlib.Core.List.{List, [], _∷_}
 use native.Mathlib.Omega.{arith}
+use native.Mathlib.Numerals.{add-one}
 use lib.ListN.{length, getD, replicate}
 use lib.Dec.{leb, ltb, eqb}
 use borrow.Author.Tests.{leb-false, ltb-false}
@@ -46,14 +47,14 @@ module _ (road : List ℕ) (good : GoodRoad road) where
       let long : segments road ≤ length (state .cells) = omega (arith, k .cells, good .segments .1) in
       let holds = stepped-holds road sheet state good long (k .jam sheet) in
       let a = arrived-most road sheet good fits in
-      let l = left-most road sheet state good fits long in
+      let l = left-most road sheet state good fits in
       let s = k .sums in
       record {
         right = and holds (k .right);
         chained = link refl (k .chained);
         cells = stepped-length road sheet state ∙ k .cells;
         jam = λ other i h. rw (same-jam road other sheet i) (holds .jam-after i h);
-        bounds = bounded-after road sheet state good fits long (length t) (k .bounds);
+        bounds = rw (← add-one (length t)) (bounded-after road sheet state good fits (length t) (k .bounds));
         balance = omega (arith, holds .balanced, k .balance);
         sums = record {
           arrived-most = omega (arith, s .arrived-most);

@@ -94,7 +94,8 @@ running b = ltb 0 (b .taken) && ltb (b .made) 60
 abbrev pub full : Book → Bool
 full b = leb 96 (b .taken)
 
--- the answer of a call
+-- the answer of a call, by the tables' order of checks (9 never comes, for the road is laid). Take: 12, 13, then the reading. Run: 5, 10, 11.
+-- Report, segments counted from 1: 6
 abbrev pub answer : List ℕ → Book → Call → Answer
 answer road b (Take bytes) = if running b then Refused 12 0 else if full b then Refused 13 0 else read (readPeriod road bytes)
 answer road b (Run k) =

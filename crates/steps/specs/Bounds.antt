@@ -3,14 +3,14 @@ use Prim.Native.Nat.{ℕ, zero, suc, _+_, _*_, _≤_, _<_}
 use mathlib.Core.List.{List}
 use mathlib.Core.Path.{_≡_, refl}
 use native.Mathlib.Omega.{arith}
-use lib.ListN.{length, getD, replicate}
+use lib.ListN.{getD, replicate}
 use Rattle.sheets.specs.Parts.{rampOf}
 use Rattle.sheets.specs.Good.{GoodRoad, GoodPeriod}
+use Rattle.steps.specs.declared.Cell.{Cell}
 use Rattle.steps.specs.declared.State.{State}
 use Rattle.steps.specs.Step.{noCell, freshState, cellIn, segments, capacityAt, cellAt, rampFlowAt, mainFlowAt, leavingAt, nextCell, offAt, stepped, arrivedOf, leftOf}
-use Rattle.steps.specs.Laws.{exit-exact, held-most, jam-most, let-out, off-most-at, ramp-flow-ramp, stepped-cell, taken-in}
-use Rattle.steps.specs.Balance.{left-is}
-use Rattle.steps.specs.Sums.{sum-most}
+use Rattle.steps.specs.Laws.{exit-exact, held-most, jam-most, let-out, off-most-at, ramp-flow-ramp, taken-in}
+use Rattle.steps.specs.Sums.{replaced-either, sum-most}
 
 -- what a state holds at most after t steps
 pub record Bounded (road : List ℕ) (t : ℕ) (state : State) : Type 0 where
@@ -82,22 +82,25 @@ module _ (road period : List ℕ) (state : State) (good : GoodRoad road) (sheet 
   unfolding stepped
   origin-after = omega (arith, sheet .demand)
 
-  module _ (long : segments road ≤ length (state .cells)) where
-    -- left in the step
-    pub left-most : leftOf road (stepped road period state) ≤ 660000
-    unfolding nextCell
-    left-most =
-        omega (
-          arith,
-          left-is road period state good long,
-          sum-most (λ i. offAt road period state i (leavingAt road period state i)) 10000 (segments road) off-most,
-          exit-most,
-          good .segments .1,
-        )
+  -- what holds of the rules' cell and of none holds of a cell after the step
+  cell-after : (P : Cell → Type 0) (i : ℕ) → i < segments road → P (nextCell road period state i) → P noCell → P (cellIn (stepped road period state) i)
+  unfolding stepped
+  cell-after P i h a b = replaced-either P (nextCell road period state) (segments road) i (state .cells) noCell h a b
 
-    pub bounded-after : (t : ℕ) → Bounded road t state → Bounded road (suc t) (stepped road period state)
-    bounded-after t b = record {
-      parts = λ i h. rw (stepped-cell road period state long i h) (parts-after i h (b .parts i h));
-      queue = λ i h. rw (stepped-cell road period state long i h) (omega (arith, queue-after i h, b .queue i h));
-      origin = omega (arith, origin-after, b .origin);
-    }
+  -- left in the step
+  pub left-most : leftOf road (stepped road period state) ≤ 660000
+  unfolding leftOf nextCell stepped
+  left-most =
+      omega (
+        arith,
+        sum-most (λ i. cellIn (stepped road period state) i .off) 10000 (segments road) (λ i h. cell-after (λ c. c .off ≤ 10000) i h (off-most i h) (omega arith)),
+        exit-most,
+        good .segments .1,
+      )
+
+  pub bounded-after : (t : ℕ) → Bounded road t state → Bounded road (t + 1) (stepped road period state)
+  bounded-after t b = record {
+    parts = λ i h. cell-after (λ c. c .n ≤ 2880000) i h (parts-after i h (b .parts i h)) (omega arith);
+    queue = λ i h. cell-after (λ c. c .q ≤ 10000 * (t + 1)) i h (omega (arith, queue-after i h, b .queue i h)) (omega arith);
+    origin = omega (arith, origin-after, b .origin);
+  }

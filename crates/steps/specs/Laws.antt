@@ -17,18 +17,19 @@ use Rattle.steps.specs.Formulas.{critical-below-jam, ramp-flow-share-lea
 use Rattle.steps.specs.Largest.{off-rises, split-whole}
 use Rattle.steps.specs.Sums.{length-replaced, replaced-at}
 
--- J is at most 2,880,000, and Q is below it
-pub jam-most : (road period : List ℕ) → GoodRoad road → (i : ℕ) → i < segments road → jamAt road period i ≤ 2880000
-unfolding jamAt lanesAt
-jam-most road period good i h =
-    let s = good .segment i h in
-    parts-most _ _ _ (good .jam .1) (s .lanes .1) (s .length .1)
-
+-- Q is below J
 pub below-jam : (road period : List ℕ) → GoodRoad road → (i : ℕ) → i < segments road → criticalAt road period i < jamAt road period i
 unfolding jamAt criticalAt lanesAt
 below-jam road period good i h =
     let s = good .segment i h in
     critical-below-jam _ _ _ _ (good .jam .0) (good .critical .1) (s .lanes .0) (s .length .0)
+
+-- and J is at most 2,880,000
+pub jam-most : (road period : List ℕ) → GoodRoad road → (i : ℕ) → i < segments road → jamAt road period i ≤ 2880000
+unfolding jamAt lanesAt
+jam-most road period good i h =
+    let s = good .segment i h in
+    parts-most _ _ _ (good .jam .1) (s .lanes .1) (s .length .1)
 
 module _ (road period : List ℕ) (state : State) where
   -- ---- what a node lets in
@@ -164,4 +165,4 @@ module _ (road period : List ℕ) (state : State) where
 
   pub stepped-cell : segments road ≤ length (state .cells) → (i : ℕ) → i < segments road → cellAt road period (stepped road period state) i ≡ nextCell road period state i
   unfolding stepped
-  stepped-cell l i h = replaced-at (nextCell road period state) (segments road) i (state .cells) noCell h l
+  stepped-cell l i h = replaced-at (nextCell road period state) (segments road) i (state .cells) noCell h (omega arith)

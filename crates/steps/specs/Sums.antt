@@ -1,12 +1,15 @@
 -- Sums over the indexes below a number, and lists whose first elements are replaced.
 use Prim.Native.Nat.{ℕ, zero, suc, _+_, _*_, _≤_, _<_}
 use mathlib.Core.List.{List}
-use mathlib.Core.Path.{_≡_, refl, _∙_}
+use mathlib.Core.Path.{_≡_, refl, _∙_, subst⁻¹}
+use mathlib.Core.Bool.{Bool, true, false}
 use mathlib.Core.Logic.{⊎-elim}
 use native.Mathlib.Nat.{eq-or-lt-of-le}
 use native.Mathlib.Numerals.{add-one}
 use native.Mathlib.Omega.{arith}
-use lib.ListN.{length, getD, length-set}
+use lib.ListN.{length, getD, length-set, List·getD-eq-default}
+use lib.Dec.{ltb}
+use borrow.Author.Tests.{ltb-true, ltb-false}
 use lib.Seq.{getD-set-same, getD-set-other}
 use Rattle.steps.specs.Step.{replaced, sumTo}
 
@@ -16,19 +19,22 @@ length-replaced g zero xs = refl
 length-replaced g (suc k) xs = simp length-set (length-replaced g k xs)
 
 -- the element at an index below the number is the function's value there
-pub replaced-at : {A : Type 0} (g : ℕ → A) (k i : ℕ) (xs : List A) (d : A) →
-    i < k →
-    k ≤ length xs →
-    getD (replaced g k xs) i d ≡ g i
+pub replaced-at : {A : Type 0} (g : ℕ → A) (k i : ℕ) (xs : List A) (d : A) → i < k → i < length xs → getD (replaced g k xs) i d ≡ g i
 unfolding replaced
 replaced-at g zero i xs d h l = absurd (omega arith)
 replaced-at g (suc k) i xs d h l =
     ⊎-elim
     (λ e. rw e (getD-set-same (replaced g k xs) k (g k) d (omega (arith, length-replaced g k xs))))
-    (λ below.
-    getD-set-other (replaced g k xs) k i (g k) d (λ e. omega arith) ∙
-    replaced-at g k i xs d below (omega arith))
+    (λ below. getD-set-other (replaced g k xs) k i (g k) d (λ e. omega arith) ∙ replaced-at g k i xs d below l)
     (eq-or-lt-of-le {n = i} {m = k} (omega arith))
+
+-- what holds of the function's value and of the default holds of the element there, however long the list is
+either-by : {A : Type 0} (P : A → Type 0) (g : ℕ → A) (k i : ℕ) (xs : List A) (d : A) → i < k → P (g i) → P d → (t : Bool) → ltb i (length xs) ≡ t → P (getD (replaced g k xs) i d)
+either-by P g k i xs d h a b true e = subst⁻¹ P (replaced-at g k i xs d h (ltb-true _ _ e)) a
+either-by P g k i xs d h a b false e = subst⁻¹ P (List·getD-eq-default (replaced g k xs) d {n = i} (omega (arith, length-replaced g k xs, ltb-false i (length xs) e))) b
+
+pub replaced-either : {A : Type 0} (P : A → Type 0) (g : ℕ → A) (k i : ℕ) (xs : List A) (d : A) → i < k → P (g i) → P d → P (getD (replaced g k xs) i d)
+replaced-either P g k i xs d h a b = either-by P g k i xs d h a b (ltb i (length xs)) refl
 
 pub sum-more : (g : ℕ → ℕ) (k s x : ℕ) → s ≡ sumTo g k → x ≡ g k → s + x ≡ sumTo g (k + 1)
 unfolding sumTo
