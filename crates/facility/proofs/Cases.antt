@@ -97,35 +97,35 @@ module _ (f : Facility) (e : sound f ≡ true) where
 
   pub run-none : (k : ℕ) → k < 1 → runOf f k ≡ refused f 5 0
   unfolding runOf
-  run-none k h = rw (e, lt-leb 1 k h)
+  run-none k h = rw (e, lt-ltb k 1 h)
 
   pub run-many : (k : ℕ) → 1 ≤ k → 60 < k → runOf f k ≡ refused f 5 0
   unfolding runOf
-  run-many k l h = rw (e, le-leb 1 k l, lt-leb k 60 h)
+  run-many k l h = rw (e, le-ltb k 1 l, lt-ltb 60 k h)
 
   pub run-no-sheet : (k : ℕ) → 1 ≤ k → k ≤ 60 → f .taken ≡ 0 → runOf f k ≡ refused f 10 0
   unfolding runOf
-  run-no-sheet k l h z = rw (e, le-leb 1 k l, le-leb k 60 h, eq-eqb _ _ z)
+  run-no-sheet k l h z = rw (e, le-ltb k 1 l, le-ltb 60 k h, eq-eqb _ _ z)
 
   pub run-short : (k : ℕ) → 1 ≤ k → k ≤ 60 → (f .taken ≡ 0 → ⊥) → 60 - f .made < k → runOf f k ≡ refused f 11 0
   unfolding runOf
-  run-short k l h n s = rw (e, le-leb 1 k l, le-leb k 60 h, ne-eqb _ _ n, lt-ltb (60 - f .made) k s)
+  run-short k l h n s = rw (e, le-ltb k 1 l, le-ltb 60 k h, ne-eqb _ _ n, lt-ltb (60 - f .made) k s)
 
   pub run-steps : (k : ℕ) → 1 ≤ k → k ≤ 60 → (f .taken ≡ 0 → ⊥) → k ≤ 60 - f .made → runOf f k ≡ done 0 (stepsOf k f)
   unfolding runOf
-  run-steps k l h n s = rw (e, le-leb 1 k l, le-leb k 60 h, ne-eqb _ _ n, le-ltb (60 - f .made) k s)
+  run-steps k l h n s = rw (e, le-ltb k 1 l, le-ltb 60 k h, ne-eqb _ _ n, le-ltb (60 - f .made) k s)
 
   pub report-none : (i : ℕ) → i < 1 → reportOf f i ≡ noReport 6
   unfolding reportOf
-  report-none i h = rw (e, lt-leb 1 i h)
+  report-none i h = rw (e, lt-ltb i 1 h)
 
   pub report-past : (i : ℕ) → 1 ≤ i → segments (f .road) < i → reportOf f i ≡ noReport 6
   unfolding reportOf
-  report-past i l h = rw (e, le-leb 1 i l, lt-leb i (segments (f .road)) h)
+  report-past i l h = rw (e, le-ltb i 1 l, lt-ltb (segments (f .road)) i h)
 
   pub report-segment : (i : ℕ) → 1 ≤ i → i ≤ segments (f .road) → reportOf f i ≡ reported (cellIn (f .state) (i - 1)) (levelAt f (i - 1))
   unfolding reportOf
-  report-segment i l h = rw (e, le-leb 1 i l, le-leb i (segments (f .road)) h)
+  report-segment i l h = rw (e, le-ltb i 1 l, le-ltb (segments (f .road)) i h)
 
   pub totals-sound : totalsOf f ≡ record { refusal = 0; arrived = f .arrived; left = f .left; stored = storedOf (f .road) (f .state); partsteps = f .partsteps }
   unfolding totalsOf

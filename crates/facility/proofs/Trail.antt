@@ -6,7 +6,7 @@ use mathlib.Core.List.{List, [], _∷_}
 use native.Mathlib.Omega.{arith}
 use native.Mathlib.Numerals.{add-one}
 use lib.ListN.{length, getD, replicate}
-use lib.Dec.{leb, ltb, eqb}
+use lib.Dec.{ltb, eqb}
 use borrow.Author.Tests.{leb-false, ltb-false}
 use Rattle.numbers.specs.Choice.{if_then_else_}
 use Rattle.sheets.specs.Allowed.{periodAllowed}
@@ -18,7 +18,7 @@ use Rattle.steps.specs.Laws.{stepped-length}
 use Rattle.steps.specs.Bounds.{Bounded, bounded-after, arrived-most, left-most}
 use Rattle.steps.specs.Claims.{stepped-holds}
 use Rattle.facility.specs.Sound.{stepsBy, sheeted}
-use Rattle.facility.specs.Ledger.{Call, Take, Run, Report, Totals, Trail, stateAfter, arrivedIn, leftIn, partstepsIn, stepFrom, more, Book, opened, withRow, running, full, after, bookAfter}
+use Rattle.facility.specs.Ledger.{Call, Take, Run, Report, Totals, Trail, stateAfter, arrivedIn, leftIn, partstepsIn, stepFrom, more, Book, opened, withRow, running, full, outside, after, bookAfter}
 use Rattle.facility.specs.Claims.{Every, none, and, Chained, start, link, Right}
 use Rattle.facility.proofs.Sound.{good-sheet}
 use Rattle.facility.specs.Ready.{Summed}
@@ -156,12 +156,12 @@ module _ (road : List ℕ) (good : GoodRoad road) where
       row-by b f p (leb-false _ _ q) (readPeriod road bytes) (λ row used e. read-period-allowed road bytes row used e)
 
   run-by : (b : Book) (k : ℕ) → Fine road b → (x y z : Bool) → eqb (b .taken) 0 ≡ y → ltb (60 - b .made) k ≡ z
-      → Fine road (if x then (if y then b else if z then b else record { sheet = b .sheet; taken = b .taken; made = b .made + k; trail = more road (b .sheet) k (b .trail) }) else b)
+      → Fine road (if x then b else if y then b else if z then b else record { sheet = b .sheet; taken = b .taken; made = b .made + k; trail = more road (b .sheet) k (b .trail) })
   unfolding stepsBy
-  run-by b k f false y z q r = f
-  run-by b k f true true z q r = f
-  run-by b k f true false true q r = f
-  run-by b k f true false false q r =
+  run-by b k f true y z q r = f
+  run-by b k f false true z q r = f
+  run-by b k f false false true q r = f
+  run-by b k f false false false q r =
       let some : 0 < b .taken = nonzero (b .taken) q in
       let room : k ≤ 60 - b .made = ltb-false _ _ r in
       record {
@@ -174,7 +174,7 @@ module _ (road : List ℕ) (good : GoodRoad road) where
 
   pub fine-after : (b : Book) (c : Call) → Fine road b → Fine road (after road b c)
   fine-after b (Take bytes) f = take-by b bytes f (running b) (full b) refl refl
-  fine-after b (Run k) f = run-by b k f (leb 1 k && leb k 60) (eqb (b .taken) 0) (ltb (60 - b .made) k) refl refl
+  fine-after b (Run k) f = run-by b k f (outside 1 60 k) (eqb (b .taken) 0) (ltb (60 - b .made) k) refl refl
   fine-after b (Report i) f = f
   fine-after b Totals f = f
 

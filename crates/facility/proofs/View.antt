@@ -1,11 +1,11 @@
 -- One call: the facility that shows a book becomes the one that shows the book after the call, and the answer is the ledger's.
 use Prim.Native.Nat.{ℕ, zero, suc, _+_, _-_, _≤_}
-use mathlib.Core.Bool.{Bool, true, false, _&&_}
+use mathlib.Core.Bool.{Bool, true, false}
 use mathlib.Core.Path.{_≡_, refl, ap, _∙_}
 use mathlib.Core.List.{List, _∷_}
 use native.Mathlib.Omega.{arith}
 use native.Mathlib.Nat.{add-zero}
-use lib.Dec.{leb, ltb, eqb}
+use lib.Dec.{ltb, eqb}
 use borrow.Author.Tests.{ne-eqb}
 use Rattle.numbers.specs.Choice.{if_then_else_}
 use Rattle.sheets.specs.Allowed.{roadAllowed}
@@ -15,7 +15,7 @@ use Rattle.steps.specs.Step.{cellIn, segments}
 use Rattle.facility.specs.declared.Facility.{Facility}
 use Rattle.facility.specs.Sound.{sound}
 use Rattle.facility.specs.Calls.{freshOn, refused, done, unfinished, withSheet, takenBy, takeOf, stepOf, stepsOf, runOf, reported, noReport, levelAt, reportOf, totalsOf}
-use Rattle.facility.specs.Ledger.{Take, Run, Report, Totals, Refused, Ran, Reported, stateAfter, arrivedIn, leftIn, partstepsIn, stepFrom, more, Book, opened, read, withRow, running, full, answer, after}
+use Rattle.facility.specs.Ledger.{Take, Run, Report, Totals, Refused, Ran, Reported, stateAfter, arrivedIn, leftIn, partstepsIn, stepFrom, more, Book, opened, read, withRow, running, full, outside, answer, after}
 use Rattle.facility.specs.Answers.{takeSays, runSays, reportSays, totalsSay}
 use Rattle.facility.proofs.Sound.{sound-is}
 use Rattle.facility.proofs.Trail.{Fine}
@@ -84,28 +84,28 @@ module _ (road : List ℕ) (ok : roadAllowed road ≡ true) where
   takes b bytes f = rw (sound-view b f) (take-by b bytes (running b) (full b))
 
   run-by : (b : Book) (k : ℕ) (x y z : Bool)
-      → let r = (if x then (if y then refused (view road b) 10 0 else if z then refused (view road b) 11 0 else done 0 (stepsOf k (view road b))) else refused (view road b) 5 0) in
-      (runSays r ≡ (if x then (if y then Refused 10 0 else if z then Refused 11 0 else Ran) else Refused 5 0))
-      × (r .facility ≡ view road (if x then (if y then b else if z then b else record { sheet = b .sheet; taken = b .taken; made = b .made + k; trail = more road (b .sheet) k (b .trail) }) else b))
-  run-by b k false y z = (refl, refl)
-  run-by b k true true z = (refl, refl)
-  run-by b k true false true = (refl, refl)
-  run-by b k true false false = (refl, steps-view b k)
+      → let r = (if x then refused (view road b) 5 0 else if y then refused (view road b) 10 0 else if z then refused (view road b) 11 0 else done 0 (stepsOf k (view road b))) in
+      (runSays r ≡ (if x then Refused 5 0 else if y then Refused 10 0 else if z then Refused 11 0 else Ran))
+      × (r .facility ≡ view road (if x then b else if y then b else if z then b else record { sheet = b .sheet; taken = b .taken; made = b .made + k; trail = more road (b .sheet) k (b .trail) }))
+  run-by b k true y z = (refl, refl)
+  run-by b k false true z = (refl, refl)
+  run-by b k false false true = (refl, refl)
+  run-by b k false false false = (refl, steps-view b k)
 
   pub runs : (b : Book) (k : ℕ) → Fine road b
       → (runSays (runOf (view road b) k) ≡ answer road b (Run k)) × (runOf (view road b) k .facility ≡ view road (after road b (Run k)))
   unfolding runOf
-  runs b k f = rw (sound-view b f) (run-by b k (leb 1 k && leb k 60) (eqb (b .taken) 0) (ltb (60 - b .made) k))
+  runs b k f = rw (sound-view b f) (run-by b k (outside 1 60 k) (eqb (b .taken) 0) (ltb (60 - b .made) k))
 
   report-by : (b : Book) (i : ℕ) (x : Bool)
-      → reportSays (if x then reported (cellIn (stateAfter (b .trail)) (i - 1)) (levelAt (view road b) (i - 1)) else noReport 6)
-      ≡ (if x then Reported (cellIn (stateAfter (b .trail)) (i - 1)) (levelAt (view road b) (i - 1)) else Refused 6 0)
+      → reportSays (if x then noReport 6 else reported (cellIn (stateAfter (b .trail)) (i - 1)) (levelAt (view road b) (i - 1)))
+      ≡ (if x then Refused 6 0 else Reported (cellIn (stateAfter (b .trail)) (i - 1)) (levelAt (view road b) (i - 1)))
   report-by b i true = refl
   report-by b i false = refl
 
   pub reports : (b : Book) (i : ℕ) → Fine road b → reportSays (reportOf (view road b) i) ≡ answer road b (Report i)
   unfolding reportOf levelAt
-  reports b i f = rw (sound-view b f) (report-by b i (leb 1 i && leb i (segments road)))
+  reports b i f = rw (sound-view b f) (report-by b i (outside 1 (segments road) i))
 
   pub sums : (b : Book) → Fine road b → totalsSay (totalsOf (view road b)) ≡ answer road b Totals
   unfolding totalsOf

@@ -1,6 +1,6 @@
 -- What each call gives, as a whole: the refusals of document 01 in its order of checks, and beside a refusal the facility as it came.
 use Prim.Native.Nat.{ℕ, zero, suc, _+_, _-_}
-use mathlib.Core.Bool.{Bool, _&&_}
+use mathlib.Core.Bool.{Bool, _&&_, not}
 use mathlib.Core.List.{List}
 use lib.Dec.{leb, ltb, eqb}
 use Rattle.numbers.specs.Choice.{if_then_else_}
@@ -17,7 +17,7 @@ use Rattle.facility.specs.declared.Facility.{Facility}
 use Rattle.facility.specs.declared.Reply.{Reply}
 use Rattle.facility.specs.declared.SegmentReport.{SegmentReport}
 use Rattle.facility.specs.declared.Sums.{Sums}
-use Rattle.facility.specs.Ledger.{noSheet}
+use Rattle.facility.specs.Ledger.{noSheet, outside}
 use Rattle.facility.specs.Sound.{sound}
 
 -- a road just laid: no sheet, and all is zero
@@ -36,6 +36,10 @@ freshOn road = record {
 -- the empty facility, which a refused laying returns
 abbrev pub empty : Facility
 empty = freshOn noSheet
+
+-- 9: the facility is the empty one
+abbrev pub isEmpty : Facility → Bool
+isEmpty f = not (sound f)
 
 -- a refusal by its number and offset: the facility comes back as it went in
 abbrev pub refused : Facility → ℕ → ℕ → Reply
@@ -76,11 +80,10 @@ takenBy f (RefusedAt number offset) = refused f number offset
 -- Take a period sheet: 9, 12, 13, then field by field 1, 2, 3 and 4 (14 for NS)
 unfoldable pub takeOf : Facility → List ℕ → Reply
 takeOf f bytes =
-    if sound f then
-    (if unfinished (f .taken) (f .made) then refused f 12 0
+    if isEmpty f then refused f 9 0
+    else if unfinished (f .taken) (f .made) then refused f 12 0
     else if leb 96 (f .taken) then refused f 13 0
-    else takenBy f (readPeriod (f .road) bytes))
-    else refused f 9 0
+    else takenBy f (readPeriod (f .road) bytes)
 
 -- one step under the sheet in force: its arrived and its left are added to the two sums, then the first less the second to part-steps
 unfoldable pub stepOf : Facility → Facility
@@ -104,20 +107,14 @@ unfoldable pub stepsOf : ℕ → Facility → Facility
 stepsOf zero f = f
 stepsOf (suc k) f = stepOf (stepsOf k f)
 
--- 5: k is outside 1..60
-abbrev pub runnable : ℕ → Bool
-runnable k = leb 1 k && leb k 60
-
 -- Run k steps: 9, 5, 10, 11
 unfoldable pub runOf : Facility → ℕ → Reply
 runOf f k =
-    if sound f then
-    (if runnable k then
-    (if eqb (f .taken) 0 then refused f 10 0
+    if isEmpty f then refused f 9 0
+    else if outside 1 60 k then refused f 5 0
+    else if eqb (f .taken) 0 then refused f 10 0
     else if ltb (60 - f .made) k then refused f 11 0
-    else done 0 (stepsOf k f))
-    else refused f 5 0)
-    else refused f 9 0
+    else done 0 (stepsOf k f)
 
 -- a report of the cell of segment i, counted from 0, or a refusal: every number 0 and the letter A
 abbrev pub reported : Cell → Level → SegmentReport
@@ -132,33 +129,32 @@ levelAt f i = levelOf (cellIn (f .state) i .n) (segmentOf (f .road) i .length) (
 -- Segment report, segments counted from 1: 9, 6
 unfoldable pub reportOf : Facility → ℕ → SegmentReport
 reportOf f i =
-    if sound f then
-    (if leb 1 i && leb i (segments (f .road)) then reported (cellIn (f .state) (i - 1)) (levelAt f (i - 1))
-    else noReport 6)
-    else noReport 9
+    if isEmpty f then noReport 9
+    else if outside 1 (segments (f .road)) i then noReport 6
+    else reported (cellIn (f .state) (i - 1)) (levelAt f (i - 1))
 
 -- Totals: 9
 unfoldable pub totalsOf : Facility → Sums
 totalsOf f =
-    if sound f then
-    record { refusal = 0; arrived = f .arrived; left = f .left; stored = storedOf (f .road) (f .state); partsteps = f .partsteps }
-    else record { refusal = 9; arrived = 0; left = 0; stored = 0; partsteps = 0 }
+    if isEmpty f then record { refusal = 9; arrived = 0; left = 0; stored = 0; partsteps = 0 }
+    else record { refusal = 0; arrived = f .arrived; left = f .left; stored = storedOf (f .road) (f .state); partsteps = f .partsteps }
 
 -- Write the road: 9, 7; the answer, and the buffer after it
 unfoldable pub writeRoadOf : Facility → List ℕ → ℕ → Writing
-writeRoadOf f buffer at = if sound f then writeAnswer buffer at (rowBytes (roadRow (f .road))) else Refused 9
+writeRoadOf f buffer at = if isEmpty f then Refused 9 else writeAnswer buffer at (rowBytes (roadRow (f .road)))
 
 unfoldable pub roadBuffer : Facility → List ℕ → ℕ → List ℕ
-roadBuffer f buffer at = if sound f then writeInto buffer at (rowBytes (roadRow (f .road))) else buffer
+roadBuffer f buffer at = if isEmpty f then buffer else writeInto buffer at (rowBytes (roadRow (f .road)))
 
 -- Write the period in force: 9, 10, 7
 unfoldable pub writePeriodOf : Facility → List ℕ → ℕ → Writing
 writePeriodOf f buffer at =
-    if sound f then
-    (if eqb (f .taken) 0 then Refused 10 else writeAnswer buffer at (rowBytes (periodRow (f .period))))
-    else Refused 9
+    if isEmpty f then Refused 9
+    else if eqb (f .taken) 0 then Refused 10
+    else writeAnswer buffer at (rowBytes (periodRow (f .period)))
 
 unfoldable pub periodBuffer : Facility → List ℕ → ℕ → List ℕ
 periodBuffer f buffer at =
-    if sound f then (if eqb (f .taken) 0 then buffer else writeInto buffer at (rowBytes (periodRow (f .period))))
-    else buffer
+    if isEmpty f then buffer
+    else if eqb (f .taken) 0 then buffer
+    else writeInto buffer at (rowBytes (periodRow (f .period)))

@@ -1,6 +1,6 @@
 -- Document 01, "The list statement": the ledger, worked out from the road and the calls' arguments alone. It names no facility.
 use Prim.Native.Nat.{ℕ, zero, suc, _+_, _-_}
-use mathlib.Core.Bool.{Bool, _&&_}
+use mathlib.Core.Bool.{Bool, _&&_, _||_}
 use mathlib.Core.List.{List, [], _∷_}
 use lib.ListN.{replicate}
 use lib.Dec.{leb, ltb, eqb}
@@ -94,18 +94,25 @@ running b = ltb 0 (b .taken) && ltb (b .made) 60
 abbrev pub full : Book → Bool
 full b = leb 96 (b .taken)
 
+-- k is outside low..high
+abbrev pub outside : (low high k : ℕ) → Bool
+outside low high k = ltb k low || ltb high k
+
 -- the answer of a call, by the tables' order of checks (9 never comes, for the road is laid). Take: 12, 13, then the reading. Run: 5, 10, 11.
 -- Report, segments counted from 1: 6
 abbrev pub answer : List ℕ → Book → Call → Answer
-answer road b (Take bytes) = if running b then Refused 12 0 else if full b then Refused 13 0 else read (readPeriod road bytes)
+answer road b (Take bytes) =
+    if running b then Refused 12 0
+    else if full b then Refused 13 0
+    else read (readPeriod road bytes)
 answer road b (Run k) =
-    if leb 1 k && leb k 60 then
-    (if eqb (b .taken) 0 then Refused 10 0 else if ltb (60 - b .made) k then Refused 11 0 else Ran)
-    else Refused 5 0
+    if outside 1 60 k then Refused 5 0
+    else if eqb (b .taken) 0 then Refused 10 0
+    else if ltb (60 - b .made) k then Refused 11 0
+    else Ran
 answer road b (Report i) =
-    if leb 1 i && leb i (segments road) then
-    Reported (cellIn (stateAfter (b .trail)) (i - 1)) (levelOf (cellIn (stateAfter (b .trail)) (i - 1) .n) (segmentOf road (i - 1) .length) (lanesAt road (b .sheet) (i - 1)))
-    else Refused 6 0
+    if outside 1 (segments road) i then Refused 6 0
+    else Reported (cellIn (stateAfter (b .trail)) (i - 1)) (levelOf (cellIn (stateAfter (b .trail)) (i - 1) .n) (segmentOf road (i - 1) .length) (lanesAt road (b .sheet) (i - 1)))
 answer road b Totals =
     Summed (arrivedIn road (b .trail)) (leftIn road (b .trail)) (storedOf road (stateAfter (b .trail))) (partstepsIn road (b .trail))
 
@@ -113,11 +120,10 @@ answer road b Totals =
 abbrev pub after : List ℕ → Book → Call → Book
 after road b (Take bytes) = if running b then b else if full b then b else withRow b (readPeriod road bytes)
 after road b (Run k) =
-    if leb 1 k && leb k 60 then
-    (if eqb (b .taken) 0 then b
+    if outside 1 60 k then b
+    else if eqb (b .taken) 0 then b
     else if ltb (60 - b .made) k then b
-    else record { sheet = b .sheet; taken = b .taken; made = b .made + k; trail = more road (b .sheet) k (b .trail) })
-    else b
+    else record { sheet = b .sheet; taken = b .taken; made = b .made + k; trail = more road (b .sheet) k (b .trail) }
 after road b (Report i) = b
 after road b Totals = b
 
