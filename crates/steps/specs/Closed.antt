@@ -88,6 +88,10 @@ leaving-by-flow s b f small h =
     λ y. leb-iff _ _ _ _ (through-bound s f y small) in
     omega (arith, largest-min (λ y. leb (through s y) f) (1000 * f / (1000 - s)) b bound, leb-false b (1000 * f / (1000 - s)) (sym (bound b) ∙ lt-leb (through s b) f h))
 
+-- without an off-ramp all go on
+pub leaving-straight : (s b f : ℕ) → s ≡ 0 → f < through s b → leaving s b f ≡ f
+leaving-straight s b f z h = leaving-by-flow s b f (omega arith) h ∙ rw z (omega arith)
+
 -- ---- P: without the quotient where it is at least E, without E where it is below
 pub supply-by-entrance : (e c j q n room : ℕ) →
     room ≡ j - n →

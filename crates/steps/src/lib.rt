@@ -180,13 +180,16 @@ fn main_flow(m: u64, p: u64, r: u64) -> u64
     least(m, less(p, r))
 }
 
-// y: all who may leave, or as many as the node ahead takes of those who go on.
+// y: all who may leave, or as many as the node ahead takes of those who go on. Without an off-ramp all go on, and no quotient is needed.
 fn leaving_of(share: u64, most: u64, ahead: u64) -> u64
     requires { ⌜ (share ≤ 1000) × (most ≤ 20000) ⌝ }
     ensures { λ r. ⌜ r ≡ leaving share most ahead ⌝ }
 {
     if through_of(share, most) <= ahead {
         return most;
+    }
+    if share == 0 {
+        return ahead;
     }
     1000 * ahead / (1000 - share)
 }

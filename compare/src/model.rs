@@ -1,0 +1,71 @@
+//! A model of document 01, written from that document alone and for reading, not for speed.
+
+pub mod facility;
+pub mod numbers;
+pub mod sheets;
+pub mod step;
+
+use crate::outcome::{Forecast, Outcome, Standing};
+use facility::Facility;
+use sheets::Refusal;
+
+/// A whole study file, as the program `forecast` treats it.
+pub fn forecast(study: &[u8]) -> Outcome {
+    match run(study) {
+        Ok(forecast) => Outcome::Forecast(forecast),
+        Err(Refusal { number, offset }) => Outcome::Refused { number, place: offset as u64 },
+    }
+}
+
+/// Lays the road, then takes and runs periods to the end of the file. A refusal's offset counts from the file's start.
+fn run(study: &[u8]) -> Result<Forecast, Refusal> {
+    let (mut facility, mut start) = Facility::lay(study)?;
+    while start < study.len() {
+        let used = facility.take(&study[start..]).map_err(|refusal| refusal.in_file(start))?;
+        facility.run(60)?;
+        start += used;
+    }
+    Ok(forecast_of(&facility))
+}
+
+fn forecast_of(facility: &Facility) -> Forecast {
+    let totals = facility.totals();
+    let segments = (1..=facility.segments()).map(|i| {
+        let report = facility.report(i).expect("the segment is there");
+        Standing { n: report.n, q: report.q, letter: report.letter }
+    });
+    Forecast {
+        arrived: totals.arrived,
+        left: totals.left,
+        stored: totals.stored,
+        part_steps: totals.part_steps,
+        origin: facility.origin(),
+        segments: segments.collect(),
+    }
+}
+
+#[cfg(test)]
+mod tests {
+    use super::*;
+
+    const WORKED: [u8; 21] = [
+        0x01, 0xBE, 0x01, 0x2D, 0x07, 0xA8, 0x0A, 0x02, 0x3C, 0xB0, 0x22, 0x00, 0x00, 0x00, // the road
+        0x01, 0xC0, 0x25, 0x90, 0x4E, 0x00, 0x00, // its one period
+    ];
+
+    #[test]
+    fn the_papers_study() {
+        let listing = "arrived 288000\nleft 241736\nstored 46264\npartsteps 1522988\norigin 42172\n1 4092 0 D\n";
+        assert_eq!(forecast(&WORKED).listing(), listing);
+    }
+
+    #[test]
+    fn the_papers_study_after_three_steps() {
+        let (mut facility, used) = Facility::lay(&WORKED).unwrap();
+        facility.take(&WORKED[used..]).unwrap();
+        facility.run(3).unwrap();
+        let totals = facility.totals();
+        assert_eq!((facility.report(1).unwrap().n, facility.origin()), (4_092, 1_816));
+        assert_eq!((totals.left, totals.part_steps), (8_492, 15_908));
+    }
+}

@@ -1,0 +1,195 @@
+//! One step, rule by rule. Segment i of the document is index i - 1 here; node i is the entrance of segment i.
+
+use super::sheets::{Period, Road, Segment};
+
+/// What stands on the road: parts in each segment, in each ramp's queue, and before node 1.
+#[derive(Clone, Debug)]
+pub struct State {
+    pub n: Vec<u64>,
+    pub q: Vec<u64>,
+    pub o: u64,
+}
+
+/// What moved in one step: over each node from the mainline (the exit too) and from the ramp, and out of each segment.
+#[derive(Clone, Debug)]
+pub struct Flows {
+    pub f: Vec<u64>,
+    pub r: Vec<u64>,
+    pub y: Vec<u64>,
+}
+
+impl State {
+    pub fn fresh(ns: usize) -> State {
+        State { n: vec![0; ns], q: vec![0; ns], o: 0 }
+    }
+
+    pub fn stored(&self) -> u64 {
+        self.n.iter().sum::<u64>() + self.q.iter().sum::<u64>() + self.o
+    }
+}
+
+impl Flows {
+    pub fn none(ns: usize) -> Flows {
+        Flows { f: vec![0; ns + 1], r: vec![0; ns], y: vec![0; ns] }
+    }
+}
+
+/// J: what the segment holds when jammed.
+fn jam(road: &Road, segment: &Segment) -> u64 {
+    road.jam_density * segment.lanes * segment.length / 22
+}
+
+/// Q: what the segment holds at capacity.
+fn at_capacity(road: &Road, segment: &Segment) -> u64 {
+    road.capacity_density * segment.lanes * segment.length / 22
+}
+
+/// off(y): what takes the off-ramp, of y parts leaving.
+pub fn off(segment: &Segment, y: u64) -> u64 {
+    y * segment.share / 1000
+}
+
+/// through(y): what goes on along the mainline, of y parts leaving.
+fn through(segment: &Segment, y: u64) -> u64 {
+    y - off(segment, y)
+}
+
+/// The largest y up to `limit` that fits, by bisection: 0 fits, and whatever is below a fitting y.
+fn largest(limit: u64, fits: impl Fn(u64) -> bool) -> u64 {
+    if fits(limit) {
+        return limit;
+    }
+    let (mut fitting, mut failing) = (0, limit);
+    while failing - fitting > 1 {
+        let middle = (fitting + failing) / 2;
+        if fits(middle) {
+            fitting = middle;
+        } else {
+            failing = middle;
+        }
+    }
+    fitting
+}
+
+/// D: what wishes to leave a segment that holds n.
+fn wish_to_leave(segment: &Segment, n: u64) -> u64 {
+    let reaching_the_end = (n * 22 * segment.speed).div_ceil(segment.length);
+    n.min(segment.capacity).min(reaching_the_end)
+}
+
+/// Y0: the largest y up to D that the off-ramp can take its share of.
+fn could_leave(segment: &Segment, n: u64) -> u64 {
+    largest(wish_to_leave(segment, n), |y| off(segment, y) <= segment.off_capacity)
+}
+
+/// E: the capacity at the entrance, dropped behind a queue.
+fn entrance_capacity(road: &Road, segment: &Segment, queue_before: bool) -> u64 {
+    if queue_before {
+        segment.capacity * (100 - road.drop) / 100
+    } else {
+        segment.capacity
+    }
+}
+
+/// P: what a segment that holds n can take.
+fn supply(road: &Road, segment: &Segment, n: u64, queue_before: bool) -> u64 {
+    let room = jam(road, segment) - n;
+    let backward = segment.capacity * room / (jam(road, segment) - at_capacity(road, segment));
+    entrance_capacity(road, segment, queue_before).min(room).min(backward)
+}
+
+/// The merge: r and f, from the supply P, the mainline's wish M, the ramp's wish W and the lanes N.
+fn merge(p: u64, m: u64, w: u64, lanes: u64) -> (u64, u64) {
+    let r = w.min(p.saturating_sub(m).max(p / (2 * lanes)));
+    (r, m.min(p - r))
+}
+
+/// y: the largest y up to Y0 whose through part the next node let in.
+fn leaving(segment: &Segment, y0: u64, let_in: u64) -> u64 {
+    largest(y0, |y| through(segment, y) <= let_in)
+}
+
+/// One step: every flow is worked out from the state at the step's start, then all move at once.
+pub fn step(road: &Road, period: &Period, state: &mut State) -> Flows {
+    let flows = flows(road, period, state);
+    for i in 0..road.segments.len() {
+        state.n[i] = state.n[i] + flows.f[i] + flows.r[i] - flows.y[i];
+        state.q[i] = state.q[i] + period.ramps[i].demand - flows.r[i];
+    }
+    state.o = state.o + period.demand - flows.f[0];
+    flows
+}
+
+fn flows(road: &Road, period: &Period, state: &State) -> Flows {
+    let ns = road.segments.len();
+    let y0: Vec<u64> = (0..ns).map(|i| could_leave(&road.segments[i], state.n[i])).collect();
+    // M at node i + 1, the exit included
+    let wish = |i: usize| match i {
+        0 => state.o + period.demand,
+        _ => through(&road.segments[i - 1], y0[i - 1]),
+    };
+    let mut flows = Flows::none(ns);
+    for (i, segment) in road.segments.iter().enumerate() {
+        let queue_before = match i {
+            0 => state.o > 0,
+            _ => state.n[i - 1] > at_capacity(road, &road.segments[i - 1]),
+        };
+        let p = supply(road, segment, state.n[i], queue_before);
+        let ramp = &period.ramps[i];
+        let w = (state.q[i] + ramp.demand).min(segment.ramp_capacity).min(ramp.meter);
+        (flows.r[i], flows.f[i]) = merge(p, wish(i), w, segment.lanes);
+    }
+    flows.f[ns] = wish(ns).min(period.exit_capacity);
+    for (i, segment) in road.segments.iter().enumerate() {
+        flows.y[i] = leaving(segment, y0[i], flows.f[i + 1]);
+    }
+    flows
+}
+
+/// The level letter of a segment that holds n.
+pub fn letter(segment: &Segment, n: u64) -> u8 {
+    let limits = [(b'A', 11), (b'B', 18), (b'C', 26), (b'D', 35), (b'E', 45)];
+    let within = |&&(_, limit): &&(u8, u64)| 22 * n <= limit * segment.length * segment.lanes;
+    limits.iter().find(within).map_or(b'F', |&(letter, _)| letter)
+}
+
+#[cfg(test)]
+mod tests {
+    use super::*;
+
+    fn split(share: u64, off_capacity: u64) -> Segment {
+        Segment { length: 300, lanes: 1, speed: 85, capacity: 20_000, ramp_capacity: 0, share, off_capacity }
+    }
+
+    #[test]
+    fn the_papers_merges() {
+        assert_eq!(merge(4000, 3900, 500, 2), (500, 3500));
+        assert_eq!(merge(4000, 3900, 1500, 2), (1000, 3000));
+        assert_eq!(merge(4000, 1000, 4000, 2), (3000, 1000));
+    }
+
+    #[test]
+    fn the_papers_splits() {
+        let segment = split(250, 1);
+        assert_eq!(could_leave(&segment, 7), 7);
+        assert_eq!(leaving(&segment, 7, 4), 5);
+        assert_eq!(off(&segment, 5), 1);
+        assert_eq!(could_leave(&segment, 9), 7);
+    }
+
+    #[test]
+    fn bisection_finds_what_a_walk_finds() {
+        for share in [0, 1, 250, 333, 500, 999, 1000] {
+            for bound in [0, 1, 2, 7, 40, 200] {
+                let segment = split(share, bound);
+                for limit in 0..60 {
+                    let walk = |fits: &dyn Fn(u64) -> bool| (0..=limit).rev().find(|&y| fits(y)).unwrap();
+                    let by_off = |y: u64| off(&segment, y) <= bound;
+                    let by_through = |y: u64| through(&segment, y) <= bound;
+                    assert_eq!(largest(limit, by_off), walk(&by_off));
+                    assert_eq!(largest(limit, by_through), walk(&by_through));
+                }
+            }
+        }
+    }
+}

@@ -1,0 +1,278 @@
+//! The engine's job in Rust tuned for speed by hand: the second thing that the engine is timed against.
+//!
+//! Whatever a step needs that does not change from step to step is worked out once, a step is one pass over the
+//! segments, the two "largest y" are closed forms, and no division is made whose result is known beforehand.
+
+use crate::outcome::{Forecast, Outcome, Standing};
+use std::ops::RangeInclusive;
+
+/// A whole study, from its bytes to the listing's numbers.
+pub fn forecast(study: &[u8]) -> Outcome {
+    match run(study) {
+        Ok(forecast) => Outcome::Forecast(forecast),
+        Err(Refusal { number, place }) => Outcome::Refused { number, place: place as u64 },
+    }
+}
+
+fn run(study: &[u8]) -> Result<Forecast, Refusal> {
+    let mut reader = Reader { bytes: study, place: 0 };
+    let mut facility = Facility::lay(&mut reader)?;
+    let mut periods = 0;
+    while reader.place < study.len() {
+        if periods == 96 {
+            return Err(Refusal { number: 13, place: reader.place });
+        }
+        facility.take(&mut reader)?;
+        for _ in 0..60 {
+            facility.step();
+        }
+        periods += 1;
+    }
+    Ok(facility.forecast())
+}
+
+struct Refusal {
+    number: u64,
+    place: usize,
+}
+
+struct Reader<'a> {
+    bytes: &'a [u8],
+    place: usize,
+}
+
+impl Reader<'_> {
+    fn field(&mut self, range: RangeInclusive<u64>) -> Result<u64, Refusal> {
+        self.field_or(range, 4)
+    }
+
+    fn field_or(&mut self, range: RangeInclusive<u64>, outside: u64) -> Result<u64, Refusal> {
+        let place = self.place;
+        let value = self.number().map_err(|number| Refusal { number, place })?;
+        if range.contains(&value) {
+            Ok(value)
+        } else {
+            Err(Refusal { number: outside, place })
+        }
+    }
+
+    fn number(&mut self) -> Result<u64, u64> {
+        let mut value = 0;
+        for (i, &byte) in self.bytes[self.place..].iter().take(5).enumerate() {
+            value |= u64::from(byte & 0x7F) << (7 * i);
+            match byte {
+                16.. if i == 4 => return Err(2),
+                0 if i > 0 => return Err(3),
+                0..=0x7F => {
+                    self.place += i + 1;
+                    return Ok(value);
+                }
+                _ => {}
+            }
+        }
+        Err(1)
+    }
+}
+
+struct Facility {
+    segments: Vec<Segment>,
+    origin: u64,
+    mainline_demand: u64,
+    exit_capacity: u64,
+    arriving: u64,
+    arrived: u64,
+    left: u64,
+    part_steps: u64,
+}
+
+struct Segment {
+    // from the road
+    length: u64,
+    lanes: u64,
+    reach: u64,
+    capacity: u64,
+    dropped_capacity: u64,
+    ramp_capacity: u64,
+    share: u64,
+    jam: u64,
+    at_capacity: u64,
+    /// The most that can leave before the off-ramp is full.
+    off_limit: u64,
+    // from the period
+    ramp_demand: u64,
+    ramp_limit: u64,
+    // the state
+    n: u64,
+    q: u64,
+}
+
+/// A segment whose outflow waits for the next node's.
+struct Leaving<'a> {
+    segment: &'a mut Segment,
+    most: u64,
+    through: u64,
+}
+
+impl Facility {
+    fn lay(reader: &mut Reader) -> Result<Facility, Refusal> {
+        let ns = reader.field(1..=64)?;
+        let jam_density = reader.field(100..=300)?;
+        let capacity_density = reader.field(30..=60)?;
+        let drop = reader.field(0..=50)?;
+        let segments = (0..ns).map(|_| Segment::lay(reader, jam_density, capacity_density, drop));
+        Ok(Facility {
+            segments: segments.collect::<Result<_, _>>()?,
+            origin: 0,
+            mainline_demand: 0,
+            exit_capacity: 0,
+            arriving: 0,
+            arrived: 0,
+            left: 0,
+            part_steps: 0,
+        })
+    }
+
+    fn take(&mut self, reader: &mut Reader) -> Result<(), Refusal> {
+        let ns = self.segments.len() as u64;
+        reader.field_or(ns..=ns, 14)?;
+        self.mainline_demand = reader.field(0..=20_000)?;
+        self.exit_capacity = reader.field(0..=20_000)?;
+        self.arriving = self.mainline_demand;
+        for segment in &mut self.segments {
+            segment.ramp_demand = reader.field(0..=10_000)?;
+            segment.ramp_limit = reader.field(0..=10_000)?.min(segment.ramp_capacity);
+            self.arriving += segment.ramp_demand;
+        }
+        Ok(())
+    }
+
+    fn step(&mut self) {
+        let mut wish = self.origin + self.mainline_demand;
+        let mut queue_before = self.origin > 0;
+        let mut left = 0;
+        let mut before: Option<Leaving> = None;
+        for segment in &mut self.segments {
+            let supply = segment.supply(queue_before);
+            let ramp = segment.ramp_flow(supply, wish);
+            let mainline = wish.min(supply - ramp);
+            match before {
+                None => self.origin = wish - mainline,
+                Some(leaving) => left += leaving.let_out(mainline),
+            }
+            queue_before = segment.n > segment.at_capacity;
+            let most = segment.could_leave();
+            wish = most - segment.off(most);
+            segment.n += mainline + ramp;
+            segment.q = segment.q + segment.ramp_demand - ramp;
+            before = Some(Leaving { segment, most, through: wish });
+        }
+        if let Some(leaving) = before {
+            let exit = wish.min(self.exit_capacity);
+            left += leaving.let_out(exit) + exit;
+        }
+        self.arrived += self.arriving;
+        self.left += left;
+        self.part_steps += self.arrived - self.left;
+    }
+
+    fn forecast(&self) -> Forecast {
+        let standing = |s: &Segment| Standing { n: s.n, q: s.q, letter: s.letter() };
+        Forecast {
+            arrived: self.arrived,
+            left: self.left,
+            stored: self.segments.iter().map(|s| s.n + s.q).sum::<u64>() + self.origin,
+            part_steps: self.part_steps,
+            origin: self.origin,
+            segments: self.segments.iter().map(standing).collect(),
+        }
+    }
+}
+
+impl Segment {
+    fn lay(reader: &mut Reader, jam_density: u64, capacity_density: u64, drop: u64) -> Result<Segment, Refusal> {
+        let length = reader.field(300..=26_400)?;
+        let lanes = reader.field(1..=8)?;
+        let speed = reader.field(15..=85)?;
+        let capacity = reader.field(1..=20_000)?;
+        let ramp_capacity = reader.field(0..=10_000)?;
+        let share = reader.field(0..=1_000)?;
+        let off_capacity = reader.field(0..=10_000)?;
+        Ok(Segment {
+            length,
+            lanes,
+            reach: 22 * speed,
+            capacity,
+            dropped_capacity: capacity * (100 - drop) / 100,
+            ramp_capacity,
+            share,
+            jam: jam_density * lanes * length / 22,
+            at_capacity: capacity_density * lanes * length / 22,
+            off_limit: (1000 * off_capacity + 999).checked_div(share).unwrap_or(u64::MAX),
+            ramp_demand: 0,
+            ramp_limit: 0,
+            n: 0,
+            q: 0,
+        })
+    }
+
+    fn off(&self, leaving: u64) -> u64 {
+        leaving * self.share / 1000
+    }
+
+    fn could_leave(&self) -> u64 {
+        let most = self.n.min(self.capacity).min(self.off_limit);
+        let moved = self.n * self.reach;
+        if moved >= most * self.length {
+            most
+        } else {
+            moved.div_ceil(self.length)
+        }
+    }
+
+    fn supply(&self, queue_before: bool) -> u64 {
+        let entrance = if queue_before { self.dropped_capacity } else { self.capacity };
+        let room = self.jam - self.n;
+        if self.n <= self.at_capacity {
+            // the queue's limit is then no less than the capacity
+            entrance.min(room)
+        } else {
+            entrance.min(room).min(self.capacity * room / (self.jam - self.at_capacity))
+        }
+    }
+
+    fn ramp_flow(&self, supply: u64, mainline_wish: u64) -> u64 {
+        let wish = (self.q + self.ramp_demand).min(self.ramp_limit);
+        let spare = supply.saturating_sub(mainline_wish);
+        if wish <= spare {
+            wish
+        } else {
+            wish.min(spare.max(supply / (2 * self.lanes)))
+        }
+    }
+
+    fn letter(&self) -> u8 {
+        let area = self.length * self.lanes;
+        match 22 * self.n {
+            density if density <= 11 * area => b'A',
+            density if density <= 18 * area => b'B',
+            density if density <= 26 * area => b'C',
+            density if density <= 35 * area => b'D',
+            density if density <= 45 * area => b'E',
+            _ => b'F',
+        }
+    }
+}
+
+impl Leaving<'_> {
+    /// Takes what leaves out of the segment, now that the next node's flow is known; gives what took the off-ramp.
+    fn let_out(self, let_in: u64) -> u64 {
+        let leaving = if let_in == self.through {
+            self.most
+        } else {
+            // less was let in than wished, so some share goes through
+            self.most.min(1000 * let_in / (1000 - self.segment.share))
+        };
+        self.segment.n -= leaving;
+        leaving - let_in
+    }
+}

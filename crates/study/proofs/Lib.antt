@@ -1,0 +1,4 @@
+pub mod Within
+pub mod Lines
+pub mod Periods
+pub mod Numbers

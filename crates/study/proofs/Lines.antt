@@ -1,0 +1,57 @@
+-- The lines of the listing, from the segment reports: one line, one line more, and all that a book's facility shows.
+use Prim.Native.Nat.{ℕ, _+_, _-_, _≤_, _<_}
+use mathlib.Core.Bool.{true}
+use mathlib.Core.Path.{_≡_, sym, ap, _∙_, fun-ext}
+use mathlib.Core.List.{List}
+use native.Mathlib.Numerals.{add-one}
+use native.Mathlib.Omega.{arith}
+use lib.ListN.{length, set, length-set, length-replicate}
+use Rattle.sheets.specs.Allowed.{roadAllowed}
+use Rattle.steps.specs.Step.{segments, replaced}
+use Rattle.steps.specs.Sums.{length-replaced}
+use Rattle.steps.specs.Level.{letterByte}
+use Rattle.facility.specs.declared.Facility.{Facility}
+use Rattle.facility.specs.declared.SegmentReport.{SegmentReport}
+use Rattle.facility.specs.declared.Sums.{Sums}
+use Rattle.facility.specs.Sound.{sound}
+use Rattle.facility.specs.Calls.{reportOf, totalsOf}
+use Rattle.facility.specs.Answers.{reportSays}
+use Rattle.facility.specs.Ledger.{Answer, Report, Book, answer}
+use Rattle.facility.proofs.Cases.{report-segment, totals-sound}
+use Rattle.facility.proofs.Trail.{Fine}
+use Rattle.facility.proofs.View.{view, sound-view, reports}
+use Rattle.study.specs.declared.Line.{Line}
+use Rattle.study.specs.declared.Listing.{Listing}
+use Rattle.study.specs.Forecast.{lineOf, linesBy, listed}
+use Rattle.study.specs.Shown.{lineAt, shown}
+
+-- a report's line
+pub line-is : (f : Facility) (i : ℕ) (r : SegmentReport) (b : ℕ) → sound f ≡ true → i < segments (f .road) → r ≡ reportOf f (i + 1) → b ≡ letterByte (r .level)
+    → record { n = r .n; q = r .q; letter = b } ≡ lineAt f i
+unfolding lineAt
+line-is f i r b s h e eb =
+    let told = report-segment f s (i + 1) (omega arith) (omega arith) in
+    rw eb
+    (ap (λ (x : SegmentReport). record { n = x .n; q = x .q; letter = letterByte (x .level) }) (e ∙ told)
+    ∙ sym (ap (λ (x : SegmentReport). lineOf (reportSays x)) told))
+
+-- one line more
+pub lines-more : (g : ℕ → Line) (i : ℕ) (lines : List Line) (line : Line) → lines ≡ linesBy g i → line ≡ g i → set lines i line ≡ linesBy g (i + 1)
+unfolding linesBy replaced
+lines-more g i lines line e h = rw (add-one, e, h)
+
+pub lines-length : (g : ℕ → Line) (i : ℕ) → length (linesBy g i) ≡ 64
+unfolding linesBy
+lines-length g i = length-replaced g i _
+
+lines-same : (g h : ℕ → Line) (k : ℕ) → ((i : ℕ) → g i ≡ h i) → linesBy g k ≡ linesBy h k
+lines-same g h k e = ap (λ (x : ℕ → Line). linesBy x k) (fun-ext e)
+
+-- the facility that shows a book shows the book's listing
+pub shows : (road : List ℕ) (ok : roadAllowed road ≡ true) (b : Book) → Fine road b → shown (view road b) ≡ listed road b
+unfolding shown listed lineAt
+shows road ok b f =
+    let lines =
+    lines-same (λ i. lineOf (reportSays (reportOf (view road b) (i + 1)))) (λ i. lineOf (answer road b (Report (i + 1)))) (segments road)
+    (λ i. ap lineOf (reports road ok b (i + 1) f)) in
+    rw (totals-sound (view road b) (sound-view road ok b f), lines)

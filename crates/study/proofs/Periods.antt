@@ -1,0 +1,245 @@
+-- A study on its way: the facility shows a book of the ledger, and the rest of the forecast is the one from that book on.
+use Prim.Native.Nat.{ℕ, zero, suc, _+_, _-_, _≤_, _<_}
+use mathlib.Core.Bool.{Bool, true, false, _&&_}
+use mathlib.Core.Path.{_≡_, refl, sym, ap, _∙_}
+use mathlib.Core.List.{List}
+use native.Mathlib.Omega.{arith}
+use lib.ListN.{length, take, drop, length-drop}
+use lib.Seq.{take-all}
+use lib.Dec.{leb, ltb, eqb}
+use borrow.Author.Tests.{lt-ltb, le-ltb, eq-eqb, ne-eqb}
+use Rattle.numbers.specs.Choice.{if_then_else_}
+use Rattle.sheets.specs.Allowed.{roadAllowed}
+use Rattle.sheets.specs.Good.{good-road, read-road-allowed}
+use Rattle.sheets.specs.Read.{Rows, ReadRow, RefusedAt, readRoad, readPeriod, padded}
+use Rattle.sheets.specs.Refusals.{road-refusal}
+use Rattle.steps.specs.Step.{segments}
+use Rattle.facility.specs.declared.Facility.{Facility}
+use Rattle.facility.specs.declared.Reply.{Reply}
+use Rattle.facility.specs.Sound.{sound}
+use Rattle.facility.specs.Calls.{laidBy, layOf, takeOf, runOf}
+use Rattle.facility.specs.Ledger.{outside, Take, Run, Answer, Refused, Taken, Ran, Reported, Summed, more, Book, opened, read, withRow, running, full, answer, after}
+use Rattle.facility.specs.Answers.{takeSays}
+use Rattle.facility.proofs.Trail.{Fine, fine-opened, fine-after}
+use Rattle.facility.proofs.View.{view, view-opened, sound-view, takes, runs}
+use Rattle.study.specs.declared.Listing.{Listing}
+use Rattle.study.specs.Forecast.{listed, refusedAt, afterSheet, whole, wholePeriod, periods, onRoad, forecastOf}
+use Rattle.study.specs.Shown.{shown}
+use Rattle.study.proofs.Within.{RowWithin, road-within, period-within}
+use Rattle.study.proofs.Lines.{shows}
+
+-- ---- the ledger's taking and running
+-- what a taking used, or the offset of its refusal, is at most m
+abbrev AnswerWithin : ℕ → Answer → Type 0
+AnswerWithin m (Taken used) = used ≤ m
+AnswerWithin m (Refused number offset) = offset ≤ m
+AnswerWithin m Ran = 0 ≤ m
+AnswerWithin m (Reported cell level) = 0 ≤ m
+AnswerWithin m (Summed arrived left stored partsteps) = 0 ≤ m
+
+read-within : (m : ℕ) (r : Rows) → RowWithin m r → AnswerWithin m (read r)
+read-within m (ReadRow row used) h = h
+read-within m (RefusedAt number offset) h = h
+
+take-within-by : (m : ℕ) (r : Rows) (x y : Bool) → RowWithin m r → AnswerWithin m (if x then Refused 12 0 else if y then Refused 13 0 else read r)
+take-within-by m r true y h = omega arith
+take-within-by m r false true h = omega arith
+take-within-by m r false false h = read-within m r h
+
+take-within : (road : List ℕ) (b : Book) (s : List ℕ) → AnswerWithin (length s) (answer road b (Take s))
+take-within road b s = take-within-by (length s) (readPeriod road s) (running b) (full b) (period-within road s)
+
+-- a sheet that is taken is counted, with no step made under it
+Begun : Book → Book → Type 0
+Begun b next = (next .taken ≡ b .taken + 1) × (next .made ≡ 0)
+
+begun-row : (b : Book) (r : Rows) (used : ℕ) → read r ≡ Taken used → Begun b (withRow b r)
+unfolding Begun
+begun-row b (ReadRow row n) used e = (refl, refl)
+begun-row b (RefusedAt number offset) used e = absurd (let z : _≡_ {A = ℕ} 0 1 = cc in omega arith)
+
+begun-by : (b : Book) (r : Rows) (used : ℕ) (x y : Bool) → (if x then Refused 12 0 else if y then Refused 13 0 else read r) ≡ Taken used
+    → Begun b (if x then b else if y then b else withRow b r)
+begun-by b r used true y e = absurd (let z : _≡_ {A = ℕ} 0 1 = cc in omega arith)
+begun-by b r used false true e = absurd (let z : _≡_ {A = ℕ} 0 1 = cc in omega arith)
+begun-by b r used false false e = begun-row b r used e
+
+begun : (road : List ℕ) (b : Book) (s : List ℕ) (used : ℕ) → answer road b (Take s) ≡ Taken used → Begun b (after road b (Take s))
+begun road b s used e = begun-by b (readPeriod road s) used (running b) (full b) e
+
+-- a run takes no sheet
+same-taken-by : (b c : Book) (x y z : Bool) → c .taken ≡ b .taken → (if x then b else if y then b else if z then b else c) .taken ≡ b .taken
+same-taken-by b c true y z h = refl
+same-taken-by b c false true z h = refl
+same-taken-by b c false false true h = refl
+same-taken-by b c false false false h = h
+
+same-taken : (road : List ℕ) (b : Book) (k : ℕ) → after road b (Run k) .taken ≡ b .taken
+same-taken road b k =
+    same-taken-by b (record { sheet = b .sheet; taken = b .taken; made = b .made + k; trail = more road (b .sheet) k (b .trail) })
+    (outside 1 60 k) (eqb (b .taken) 0) (ltb (60 - b .made) k) refl
+
+-- "runs every period whole": right after a sheet is taken, a run of the period's steps is never refused
+pub run-whole : (road : List ℕ) (b : Book) (s : List ℕ) (used : ℕ) → answer road b (Take s) ≡ Taken used → answer road (after road b (Take s)) (Run whole) ≡ Ran
+unfolding Begun
+run-whole road b s used e =
+    let next = after road b (Take s) in
+    let g = begun road b s used e in
+    rw (ne-eqb (next .taken) 0 (λ z. omega (arith, g .0)), le-ltb (60 - next .made) whole (omega (arith, g .1)))
+
+-- and after it no step is left, so that no taking of a study is refused by 12
+and-false : (t : Bool) → (t && false) ≡ false
+and-false true = refl
+and-false false = refl
+
+run-out-by : (b c : Book) (x y : Bool) → x ≡ false → y ≡ false → 60 ≤ c .made → running (if x then b else if y then b else c) ≡ false
+run-out-by b c x y p q h = rw (p, q, le-ltb (c .made) 60 h) (and-false (ltb 0 (c .taken)))
+
+run-out : (road : List ℕ) (b : Book) (s : List ℕ) (used : ℕ) → answer road b (Take s) ≡ Taken used → running (wholePeriod road b s) ≡ false
+unfolding Begun
+run-out road b s used e =
+    let next = after road b (Take s) in
+    let g = begun road b s used e in
+    run-out-by next (record { sheet = next .sheet; taken = next .taken; made = next .made + whole; trail = more road (next .sheet) whole (next .trail) })
+    (eqb (next .taken) 0) (ltb (60 - next .made) whole)
+    (ne-eqb (next .taken) 0 (λ z. omega (arith, g .0))) (le-ltb (60 - next .made) whole (omega (arith, g .1))) (omega arith)
+
+-- ---- a study on its way, at a place of its bytes
+pub record Playing (bytes : List ℕ) (f : Facility) (at : ℕ) : Type 0 where
+  pub road : List ℕ
+  pub ok : roadAllowed road ≡ true
+  pub book : Book
+  pub fine : Fine road book
+  pub idle : running book ≡ false
+  pub view : f ≡ view road book
+  pub most : ℕ
+  pub count : most + book .taken ≡ 97
+  pub within : at ≤ length bytes
+  pub rest : forecastOf bytes ≡ periods most road book bytes at
+
+laid-by : (bytes : List ℕ) (r : Rows) → readRoad bytes ≡ r → (laid : Reply) → laid ≡ laidBy r → laid .refusal ≡ 0 → Playing bytes (laid .facility) (laid .used)
+unfolding forecastOf
+laid-by bytes (ReadRow row used) e laid is z =
+    let ok = read-road-allowed bytes row used e in
+    let end : laid .used ≡ used = ap (λ (q : Reply). q .used) is in
+    record {
+      road = padded row;
+      ok = ok;
+      book = opened;
+      fine = fine-opened (padded row) (good-road (padded row) ok);
+      idle = refl;
+      view = ap (λ (q : Reply). q .facility) is ∙ view-opened (padded row);
+      most = 97;
+      count = refl;
+      within = omega (arith, rw e at (road-within bytes));
+      rest = ap (onRoad bytes) e ∙ ap (periods 97 (padded row) opened bytes) (sym end);
+    }
+laid-by bytes (RefusedAt number offset) e laid is z = absurd (omega (arith, road-refusal bytes number offset e, ap (λ (q : Reply). q .refusal) is))
+
+-- a road that was laid starts the study; one that was not is its answer
+pub begins : (bytes : List ℕ) (laid : Reply) → laid ≡ layOf bytes → laid .refusal ≡ 0 → Playing bytes (laid .facility) (laid .used)
+unfolding layOf
+begins bytes laid is z = laid-by bytes (readRoad bytes) refl laid is z
+
+not-laid-by : (bytes : List ℕ) (r : Rows) (laid : Reply) → laid ≡ laidBy r → (laid .refusal ≡ 0 → ⊥) → refusedAt (laid .refusal) (laid .offset) ≡ onRoad bytes r
+not-laid-by bytes (ReadRow row used) laid is n = absurd (n (ap (λ (q : Reply). q .refusal) is))
+not-laid-by bytes (RefusedAt number offset) laid is n = ap (λ (q : Reply). refusedAt (q .refusal) (q .offset)) is
+
+pub not-begun : (bytes : List ℕ) (laid : Reply) → laid ≡ layOf bytes → (laid .refusal ≡ 0 → ⊥) → refusedAt (laid .refusal) (laid .offset) ≡ forecastOf bytes
+unfolding layOf forecastOf
+not-begun bytes laid is n = not-laid-by bytes (readRoad bytes) laid is n
+
+-- the rest of the bytes, handed on as a part
+pub rest-of : (bytes : List ℕ) (at : ℕ) → at ≤ length bytes → take (length bytes - at) (drop at bytes) ≡ drop at bytes
+rest-of bytes at h = take-all (length bytes - at) (drop at bytes) (rw length-drop (omega arith))
+
+-- a sheet more is looked at while the bytes go on, and none where they end
+sheet-by : (most : ℕ) (road : List ℕ) (b : Book) (bytes : List ℕ) (at : ℕ) → 0 < most → at < length bytes
+    → periods most road b bytes at ≡ afterSheet (answer road b (Take (drop at bytes))) at (periods (most - 1) road (wholePeriod road b (drop at bytes)) bytes)
+unfolding periods
+sheet-by zero road b bytes at p h = absurd (omega arith)
+sheet-by (suc most) road b bytes at p h =
+    let less : most ≡ suc most - 1 = omega arith in
+    let next = wholePeriod road b (drop at bytes) in
+    let looks : periods (suc most) road b bytes at ≡ afterSheet (answer road b (Take (drop at bytes))) at (periods most road next bytes) = rw (lt-ltb at (length bytes) h) in
+    looks ∙ ap (λ (m : ℕ). afterSheet (answer road b (Take (drop at bytes))) at (periods m road next bytes)) less
+
+end-by : (most : ℕ) (road : List ℕ) (b : Book) (bytes : List ℕ) (at : ℕ) → length bytes ≤ at → periods most road b bytes at ≡ listed road b
+unfolding periods
+end-by zero road b bytes at h = refl
+end-by (suc most) road b bytes at h = rw (le-ltb at (length bytes) h)
+
+module _ (bytes : List ℕ) (f : Facility) (at : ℕ) (p : Playing bytes f at) where
+  pub playing-sound : (sound f ≡ true) × (segments (f .road) ≤ 64)
+  playing-sound = rw (p .view) (sound-view (p .road) (p .ok) (p .book) (p .fine), good-road (p .road) (p .ok) .segments .1)
+
+  -- the end of the file
+  pub ends : length bytes ≤ at → shown f ≡ forecastOf bytes
+  ends h = rw (p .view) (shows (p .road) (p .ok) (p .book) (p .fine) ∙ sym (end-by (p .most) (p .road) (p .book) bytes at h) ∙ sym (p .rest))
+
+  -- a sheet that the bytes from the place on give
+  module _ (inside : at < length bytes) (r : Reply) (gave : r ≡ takeOf f (drop at bytes)) where
+    said : takeSays r ≡ answer (p .road) (p .book) (Take (drop at bytes))
+    said = ap takeSays (gave ∙ ap (λ (g : Facility). takeOf g (drop at bytes)) (p .view)) ∙ takes (p .road) (p .ok) (p .book) (drop at bytes) (p .fine) .0
+
+    told : forecastOf bytes ≡ afterSheet (takeSays r) at (periods (p .most - 1) (p .road) (wholePeriod (p .road) (p .book) (drop at bytes)) bytes)
+    told =
+        p .rest ∙ sheet-by (p .most) (p .road) (p .book) bytes at (omega (arith, p .count, p .fine .few)) inside
+        ∙ ap (λ (a : Answer). afterSheet a at (periods (p .most - 1) (p .road) (wholePeriod (p .road) (p .book) (drop at bytes)) bytes)) (sym said)
+
+    said-within : AnswerWithin (length bytes - at) (takeSays r)
+    said-within = rw (said, ← (length-drop at bytes)) (take-within (p .road) (p .book) (drop at bytes))
+
+    module _ (n : r .refusal ≡ 0 → ⊥) where
+      -- a refused sheet: its place
+      pub place-within : at + r .offset ≤ length bytes
+      place-within = omega (arith, rw (ne-eqb (r .refusal) 0 n) at said-within)
+
+      pub refuses : refusedAt (r .refusal) (at + r .offset) ≡ forecastOf bytes
+      refuses = sym (rw (ne-eqb (r .refusal) 0 n) at told)
+
+    module _ (z : r .refusal ≡ 0) where
+      taken : answer (p .road) (p .book) (Take (drop at bytes)) ≡ Taken (r .used)
+      taken = sym (rw (eq-eqb (r .refusal) 0 z) at said)
+
+      pub next-within : at + r .used ≤ length bytes
+      next-within = omega (arith, rw (eq-eqb (r .refusal) 0 z) at said-within)
+
+      -- the period run whole
+      module _ (ran : Reply) (runs-it : ran ≡ runOf (r .facility) whole) where
+        view-next : ran .facility ≡ view (p .road) (wholePeriod (p .road) (p .book) (drop at bytes))
+        view-next =
+            let b = after (p .road) (p .book) (Take (drop at bytes)) in
+            let begins : r .facility ≡ view (p .road) b =
+            ap (λ (q : Reply). q .facility) (gave ∙ ap (λ (g : Facility). takeOf g (drop at bytes)) (p .view)) ∙ takes (p .road) (p .ok) (p .book) (drop at bytes) (p .fine) .1 in
+            ap (λ (q : Reply). q .facility) (runs-it ∙ ap (λ (g : Facility). runOf g whole) begins)
+            ∙ runs (p .road) (p .ok) b whole (fine-after (p .road) (good-road (p .road) (p .ok)) (p .book) (Take (drop at bytes)) (p .fine)) .1
+
+        taken-next : wholePeriod (p .road) (p .book) (drop at bytes) .taken ≡ p .book .taken + 1
+        unfolding Begun
+        taken-next =
+            same-taken (p .road) (after (p .road) (p .book) (Take (drop at bytes))) whole
+            ∙ begun (p .road) (p .book) (drop at bytes) (r .used) taken .0
+
+        pub one-taken : ran .facility .taken ≡ f .taken + 1
+        one-taken =
+            ap (λ (g : Facility). g .taken) view-next ∙ taken-next ∙ ap (λ (g : Facility). g .taken + 1) (sym (p .view))
+
+        pub goes-on : Playing bytes (ran .facility) (at + r .used)
+        goes-on =
+            let good = good-road (p .road) (p .ok) in
+            record {
+              road = p .road;
+              ok = p .ok;
+              book = wholePeriod (p .road) (p .book) (drop at bytes);
+              fine = fine-after (p .road) good (after (p .road) (p .book) (Take (drop at bytes))) (Run whole) (fine-after (p .road) good (p .book) (Take (drop at bytes)) (p .fine));
+              idle = run-out (p .road) (p .book) (drop at bytes) (r .used) taken;
+              view = view-next;
+              most = p .most - 1;
+              count = omega (arith, p .count, p .fine .few, taken-next);
+              within = next-within;
+              rest = rw (eq-eqb (r .refusal) 0 z) at told;
+            }
+
+  pub few-taken : f .taken ≤ 96
+  few-taken = rw (p .view) (p .fine .few)

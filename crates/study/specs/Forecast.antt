@@ -1,0 +1,89 @@
+-- Document 01, "The program forecast": a whole study, from the bytes of its file to what the listing shows, by the ledger alone.
+use Prim.Native.Nat.{ℕ, zero, suc, _+_}
+use mathlib.Core.List.{List}
+use lib.ListN.{length, drop, replicate}
+use lib.Dec.{ltb}
+use Rattle.numbers.specs.Choice.{if_then_else_}
+use Rattle.sheets.specs.Read.{Rows, ReadRow, RefusedAt, readRoad, padded}
+use Rattle.steps.specs.Step.{segments, replaced, storedOf}
+use Rattle.steps.specs.Level.{letterByte}
+use Rattle.facility.specs.Ledger.{Take, Run, Report, Answer, Refused, Taken, Ran, Reported, Summed, stateAfter, arrivedIn, leftIn, partstepsIn, Book, opened, answer, after}
+use Rattle.study.specs.declared.Line.{Line}
+use Rattle.study.specs.declared.Listing.{Listing}
+
+-- past the last segment, and beside a refusal
+abbrev pub noLine : Line
+noLine = record { n = 0; q = 0; letter = 0 }
+
+-- a line of the listing: n, q and the letter, as a segment report has them
+abbrev pub lineOf : Answer → Line
+lineOf (Reported cell level) = record { n = cell .n; q = cell .q; letter = letterByte level }
+lineOf (Refused number offset) = noLine
+lineOf (Taken used) = noLine
+lineOf Ran = noLine
+lineOf (Summed arrived left stored partsteps) = noLine
+
+-- the lines of so many segments, counted from 0, and zeros after them
+unfoldable pub linesBy : (ℕ → Line) → ℕ → List Line
+linesBy line segments = replaced line segments (replicate 64 noLine)
+
+-- "arrived, left, stored, part-steps, origin (o), then segment, n, q, letter"
+unfoldable pub listed : List ℕ → Book → Listing
+listed road b = record {
+  refusal = 0;
+  place = 0;
+  segments = segments road;
+  arrived = arrivedIn road (b .trail);
+  left = leftIn road (b .trail);
+  stored = storedOf road (stateAfter (b .trail));
+  partsteps = partstepsIn road (b .trail);
+  origin = stateAfter (b .trail) .origin;
+  lines = linesBy (λ i. lineOf (answer road b (Report (i + 1)))) (segments road);
+}
+
+-- "a refused study prints only refused, the number and the place in the file"
+unfoldable pub refusedAt : (number place : ℕ) → Listing
+refusedAt number place = record {
+  refusal = number;
+  place = place;
+  segments = 0;
+  arrived = 0;
+  left = 0;
+  stored = 0;
+  partsteps = 0;
+  origin = 0;
+  lines = replicate 64 noLine;
+}
+
+-- a sheet that starts at a place of the file: taken, on from where it ended; refused, "the sheet's start plus the refusal's offset"
+abbrev pub afterSheet : Answer → ℕ → (ℕ → Listing) → Listing
+afterSheet (Taken used) at on = on (at + used)
+afterSheet (Refused number offset) at on = refusedAt number (at + offset)
+afterSheet Ran at on = on at
+afterSheet (Reported cell level) at on = on at
+afterSheet (Summed arrived left stored partsteps) at on = on at
+
+-- "60 steps to a 15-minute period"
+abbrev pub whole : ℕ
+whole = 60
+
+-- the book after a sheet is taken and its period run whole
+abbrev pub wholePeriod : List ℕ → Book → List ℕ → Book
+wholePeriod road b sheet = after road (after road b (Take sheet)) (Run whole)
+
+-- the period sheets from a place on, "to the end of the file". At most so many are looked at
+unfoldable pub periods : ℕ → List ℕ → Book → List ℕ → ℕ → Listing
+periods zero road b bytes at = listed road b
+periods (suc most) road b bytes at =
+    if ltb at (length bytes) then
+    afterSheet (answer road b (Take (drop at bytes))) at (periods most road (wholePeriod road b (drop at bytes)) bytes)
+    else listed road b
+
+-- "the period part starts wherever the road part ended". The 97th sheet is always refused, by 13, so that no more are looked at
+abbrev pub onRoad : List ℕ → Rows → Listing
+onRoad bytes (ReadRow row used) = periods 97 (padded row) opened bytes used
+onRoad bytes (RefusedAt number offset) = refusedAt number offset
+
+-- the forecast of a study
+unfoldable pub forecastOf : List ℕ → Listing
+forecastOf bytes = onRoad bytes (readRoad bytes)

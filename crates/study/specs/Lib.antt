@@ -1,0 +1,4 @@
+pub mod Forecast
+pub mod Shown
+pub mod Export
+pub mod Starred

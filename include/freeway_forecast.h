@@ -1,0 +1,48 @@
+/* The freeway queue forecast engine, for programs in C. Link with target/staticlib/libstudy.a. */
+
+#ifndef FREEWAY_FORECAST_H
+#define FREEWAY_FORECAST_H
+
+#include <stddef.h>
+#include <stdint.h>
+
+#ifdef __cplusplus
+extern "C" {
+#endif
+
+/* How many numbers a forecast fills. */
+#define FREEWAY_FORECAST_NUMBERS 200
+
+/* Where each number stands in `out`. */
+enum {
+    FREEWAY_REFUSAL = 0,    /* number of the refusal, 0 for none */
+    FREEWAY_PLACE = 1,      /* the refusal's place in the study, in bytes from its start */
+    FREEWAY_SEGMENTS = 2,   /* how many segments the road has, 1 to 64 */
+    FREEWAY_ARRIVED = 3,    /* parts that arrived in all steps (a part is 1/240 vehicle) */
+    FREEWAY_LEFT = 4,       /* parts that left */
+    FREEWAY_STORED = 5,     /* parts in all segments and queues at the end */
+    FREEWAY_PART_STEPS = 6, /* sum over the steps of what was stored after each */
+    FREEWAY_ORIGIN = 7      /* parts in the mainline queue before the first segment */
+};
+
+/* Where segment i stands in `out`, counted from 0. */
+#define FREEWAY_PARTS(i) (8 + 3 * (i))   /* parts in the segment */
+#define FREEWAY_QUEUE(i) (9 + 3 * (i))   /* parts in its on-ramp's queue */
+#define FREEWAY_LETTER(i) (10 + 3 * (i)) /* level letter, 'A' to 'F' */
+
+/*
+ * Reads a study (a road sheet, then period sheets to the end), runs every period whole, and fills the first 200 numbers
+ * of `out`; those not named above are 0. After a refusal all but the first two are 0. Numbers past the 200th keep
+ * their contents.
+ *
+ * Gives the refusal's number, 0 for none. Where `out_len` is below 200 it gives 7 and leaves `out` as it was.
+ *
+ * `study` and `out` must not overlap. Nothing is allocated, and nothing is kept between calls.
+ */
+uint64_t freeway_forecast(const uint8_t *study, size_t study_len, uint64_t *out, size_t out_len);
+
+#ifdef __cplusplus
+}
+#endif
+
+#endif
