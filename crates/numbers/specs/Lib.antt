@@ -6,4 +6,3 @@ pub mod Turns
 pub mod Stores
 pub mod Round
 pub mod Refusals
-pub mod Examples

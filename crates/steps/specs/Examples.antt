@@ -1,4 +1,4 @@
--- The rules compute: the merge and split rows of document 01, and steps of studies whose states were worked out apart from these definitions.
+-- The rules compute: the letters at their limits, and steps of studies whose states were worked out apart from these definitions.
 use Prim.Native.Nat.{ℕ, zero, suc}
 use mathlib.Core.Path.{_≡_, refl}
 use mathlib.Core.List.{List, [], _∷_, map}
@@ -10,21 +10,6 @@ use Rattle.steps.specs.Rules.{largest, roundedUp, partsAt, wishToLeave, 
 use Rattle.steps.specs.declared.Level.the-variants.{A, B, C, D, E, F}
 use Rattle.steps.specs.Level.{holdsAtMost, levelBy, levelOf}
 use Rattle.steps.specs.Step.{noCell, segments, lanesAt, capacityAt, jamAt, criticalAt, offAt, throughAt, wishAt, mostAt, mainWishAt, rampWishAt, queuedAt, entranceAt, supplyAt, rampFlowAt, mainFlowAt, leavingAt, nextCell, replaced, stepped}
-
--- r and f of a merge
-unfoldable pub merge : (supply lanes mainWish rampWish : ℕ) → ℕ × ℕ
-merge p n m w = (rampFlow p n m w, mainFlow m p (rampFlow p n m w))
-
--- y and off(y) of a split
-unfoldable pub split : (share offramp wish ahead : ℕ) → ℕ × ℕ
-split s f d a = (leaving s (mostLeaving s f d) a, off s (leaving s (mostLeaving s f d) a))
-
--- the starred rows. Merge, P = 4000, N = 2: M 3900, W 500; M 3900, W 1500; M 1000, W 4000. Split, s = 250, F 1: D 7, f 4; D 9 gives Y0.
-pub starred :
-    (merge 4000 2 3900 500 ∷ merge 4000 2 3900 1500 ∷ merge 4000 2 1000 4000 ∷ [] ≡ (500, 3500) ∷ (1000, 3000) ∷ (3000, 1000) ∷ []) ×
-    (split 250 1 7 4 ≡ (5, 1)) × (mostLeaving 250 1 9 ≡ 7)
-unfolding merge split rampFlow mainFlow leaving mostLeaving largest through off
-starred = (refl, refl, refl)
 
 -- the letters at the limits of a lane of 1320 feet, and one part above each
 levels :

@@ -1,27 +1,25 @@
 -- The lines of the listing, from the segment reports: one line, one line more, and all that a book's facility shows.
-use Prim.Native.Nat.{ℕ, _+_, _-_, _≤_, _<_}
+use Prim.Native.Nat.{ℕ, _+_, _-_, _<_}
 use mathlib.Core.Bool.{true}
 use mathlib.Core.Path.{_≡_, sym, ap, _∙_, fun-ext}
 use mathlib.Core.List.{List}
 use native.Mathlib.Numerals.{add-one}
 use native.Mathlib.Omega.{arith}
-use lib.ListN.{length, set, length-set, length-replicate}
+use lib.ListN.{length, set}
 use Rattle.sheets.specs.Allowed.{roadAllowed}
 use Rattle.steps.specs.Step.{segments, replaced}
 use Rattle.steps.specs.Sums.{length-replaced}
 use Rattle.steps.specs.Level.{letterByte}
 use Rattle.facility.specs.declared.Facility.{Facility}
 use Rattle.facility.specs.declared.SegmentReport.{SegmentReport}
-use Rattle.facility.specs.declared.Sums.{Sums}
 use Rattle.facility.specs.Sound.{sound}
-use Rattle.facility.specs.Calls.{reportOf, totalsOf}
+use Rattle.facility.specs.Calls.{reportOf}
 use Rattle.facility.specs.Answers.{reportSays}
-use Rattle.facility.specs.Ledger.{Answer, Report, Book, answer}
+use Rattle.facility.specs.Ledger.{Report, Book, answer}
 use Rattle.facility.proofs.Cases.{report-segment, totals-sound}
 use Rattle.facility.proofs.Trail.{Fine}
 use Rattle.facility.proofs.View.{view, sound-view, reports}
 use Rattle.study.specs.declared.Line.{Line}
-use Rattle.study.specs.declared.Listing.{Listing}
 use Rattle.study.specs.Forecast.{lineOf, linesBy, listed}
 use Rattle.study.specs.Shown.{lineAt, shown}
 

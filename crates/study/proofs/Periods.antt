@@ -6,7 +6,7 @@ use mathlib.Core.List.{List}
 use native.Mathlib.Omega.{arith}
 use lib.ListN.{length, take, drop, length-drop}
 use lib.Seq.{take-all}
-use lib.Dec.{leb, ltb, eqb}
+use lib.Dec.{ltb, eqb}
 use borrow.Author.Tests.{lt-ltb, le-ltb, eq-eqb, ne-eqb}
 use Rattle.numbers.specs.Choice.{if_then_else_}
 use Rattle.sheets.specs.Allowed.{roadAllowed}
@@ -22,7 +22,6 @@ use Rattle.facility.specs.Ledger.{outside, Take, Run, Answer, Refused, Taken, R
 use Rattle.facility.specs.Answers.{takeSays}
 use Rattle.facility.proofs.Trail.{Fine, fine-opened, fine-after}
 use Rattle.facility.proofs.View.{view, view-opened, sound-view, takes, runs}
-use Rattle.study.specs.declared.Listing.{Listing}
 use Rattle.study.specs.Forecast.{listed, refusedAt, afterSheet, whole, wholePeriod, periods, onRoad, forecastOf}
 use Rattle.study.specs.Shown.{shown}
 use Rattle.study.proofs.Within.{RowWithin, road-within, period-within}

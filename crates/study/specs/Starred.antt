@@ -1,5 +1,5 @@
 -- Document 01, "Merges, splits and a worked study": the starred examples as rows of one table, each held to the definitions.
-use Prim.Native.Nat.{ℕ, zero, suc}
+use Prim.Native.Nat.{ℕ}
 use mathlib.Core.Path.{_≡_, refl}
 use mathlib.Core.List.{List, [], _∷_}
 use lib.ListN.{drop}

@@ -2,11 +2,10 @@
 use Prim.Native.Nat.{_-_, _≤_}
 use mathlib.Core.Path.{_≡_, refl, ap, _∙_}
 use native.Mathlib.Omega.{arith}
-use lib.ListN.{length}
 use Rattle.steps.specs.Step.{replaced}
 use Rattle.study.specs.Forecast.{linesBy}
 use Rattle.study.specs.Shown.{lineAt}
-use Rattle.study.proofs.Lines.{lines-more, lines-length}
+use Rattle.study.proofs.Lines.{lines-more}
 use Rattle.study.proofs.lines_of.Statement.{statement}
 use Rattle.study.proofs.lines_of.Tie as tie
 

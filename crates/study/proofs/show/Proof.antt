@@ -7,7 +7,6 @@ use Rattle.steps.specs.Step.{segments}
 use Rattle.facility.specs.declared.Sums.{Sums}
 use Rattle.facility.specs.Calls.{totalsOf}
 use Rattle.study.specs.declared.Line.{Line}
-use Rattle.study.specs.declared.Listing.{Listing}
 use Rattle.study.specs.Shown.{shown}
 use Rattle.study.proofs.show.Statement.{statement}
 use Rattle.study.proofs.show.Tie as tie
