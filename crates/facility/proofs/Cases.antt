@@ -10,7 +10,8 @@ use Rattle.sheets.specs.declared.Sheet.{Sheet}
 use Rattle.sheets.specs.Read.{Rows, ReadRow, RefusedAt, readRoad, readPeriod, sheetOf}
 use Rattle.sheets.specs.Refusals.{road-refusal, period-refusal}
 use Rattle.sheets.specs.Write.{rowBytes, roadRow, periodRow}
-use Rattle.steps.specs.Step.{cellIn, segments, storedOf}
+use Rattle.conditions.specs.Conditions.{segments}
+use Rattle.steps.specs.Step.{cellIn, storedOf}
 use Rattle.facility.specs.declared.Facility.{Facility}
 use Rattle.facility.specs.Sound.{sound}
 use Rattle.facility.specs.Calls.{freshOn, empty, refused, done, laidBy, layOf, unfinished, withSheet, takenBy, takeOf, stepsOf, runOf, reported, noReport, levelAt, reportOf, totalsOf, writeRoadOf, roadBuffer, writePeriodOf, periodBuffer}
@@ -127,7 +128,7 @@ module _ (f : Facility) (e : sound f ≡ true) where
   unfolding reportOf
   report-segment i l h = rw (e, le-ltb i 1 l, le-ltb (segments (f .road)) i h)
 
-  pub totals-sound : totalsOf f ≡ record { refusal = 0; arrived = f .arrived; left = f .left; stored = storedOf (f .road) (f .state); partsteps = f .partsteps }
+  pub totals-sound : totalsOf f ≡ record { refusal = 0; arrived = f .arrived; left = f .left; stored = storedOf (segments (f .road)) (f .state); partsteps = f .partsteps }
   unfolding totalsOf
   totals-sound = rw e
 

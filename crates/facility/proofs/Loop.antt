@@ -7,13 +7,16 @@ use native.Mathlib.Nat.{add-zero}
 use Rattle.sheets.specs.Good.{GoodRoad, GoodPeriod, good-road}
 use Rattle.steps.specs.declared.State.{State}
 use Rattle.steps.specs.declared.Stepped.{Stepped}
+use Rattle.conditions.specs.Conditions.{Conditions, Under, conditionsOf, segments}
 use Rattle.steps.specs.Step.{stepped, arrivedOf, leftOf}
-use Rattle.steps.specs.Bounds.{Bounded, bounded-longer, bounded-after, arrived-most, left-most}
+use Rattle.conditions.specs.Good.{GoodConditions, under, good-conditions}
+use Rattle.steps.specs.Held.{Bounded}
+use Rattle.steps.specs.Bounds.{bounded-longer, bounded-after, arrived-most, left-most}
 use Rattle.facility.specs.declared.Facility.{Facility}
 use Rattle.facility.specs.Sound.{stepsBy}
 use Rattle.facility.specs.Ready.{Summed, Ready}
-use Rattle.facility.specs.Calls.{stepOf, stepsOf}
-use Rattle.facility.proofs.Sound.{good-sheet}
+use Rattle.facility.specs.Calls.{conditionsOn, stepOf, stepsOf}
+use Rattle.facility.proofs.Sound.{good-sheet, sheeted-by-some}
 
 -- the facility with i steps more and these values
 abbrev pub at-turn : Facility → ℕ → State → ℕ → ℕ → ℕ → Facility
@@ -35,7 +38,7 @@ steps f i = stepsBy (f .taken) (f .made + i)
 pub record Turn (f : Facility) (k i : ℕ) (state : State) (arrived left partsteps : ℕ) : Type 0 where
   pub made : at-turn f i state arrived left partsteps ≡ stepsOf i f
   pub most : i ≤ k
-  pub bounds : Bounded (f .road) (steps f i) state
+  pub bounds : Bounded (segments (f .road)) (steps f i) state
   pub sums : Summed (steps f i) arrived left partsteps
 
 module _ (f : Facility) (k : ℕ) (ready : Ready f k) where
@@ -44,6 +47,17 @@ module _ (f : Facility) (k : ℕ) (ready : Ready f k) where
 
   pub sheet-good : GoodPeriod (f .road) (f .period)
   sheet-good = good-sheet (f .taken) (f .road) (f .period) road-good (ready .is .sheet) (ready .some)
+
+  -- what is in force is the sheet's
+  pub force-is : conditionsOn f ≡ conditionsOf (f .road) (Under (f .period))
+  force-is = ap (conditionsOf (f .road)) (sheeted-by-some (f .taken) (f .period) (ready .some))
+
+  pub force-good : GoodConditions (conditionsOn f)
+  force-good = rw force-is (good-conditions (f .road) (Under (f .period)) road-good (under sheet-good))
+
+  -- what is in force, as the row that is filled tells it
+  pub filled : (c : Conditions) → c ≡ conditionsOf (f .road) (Under (f .period)) → c ≡ conditionsOn f
+  filled c e = e ∙ sym force-is
 
   few : (i : ℕ) → i < k → steps f i < 5760
   unfolding stepsBy
@@ -64,20 +78,24 @@ module _ (f : Facility) (k : ℕ) (ready : Ready f k) where
 
   module _ (i : ℕ) (state : State) (arrived left partsteps : ℕ) (t : Turn f k i state arrived left partsteps) (h : i < k) where
     -- what the step asks
-    pub turn-bounds : Bounded (f .road) 5760 state
-    turn-bounds = bounded-longer (f .road) (steps f i) 5760 state (omega (arith, few i h)) (t .bounds)
+    pub turn-bounds : Bounded (segments (f .road)) 5760 state
+    turn-bounds = bounded-longer (segments (f .road)) (steps f i) 5760 state (omega (arith, few i h)) (t .bounds)
+
+    pub turn-asks : GoodConditions (conditionsOn f) × Bounded (conditionsOn f .segments) 5760 state
+    unfolding conditionsOf
+    turn-asks = (force-good, turn-bounds)
 
     abbrev comes : ℕ
-    comes = arrivedOf (f .road) (f .period)
+    comes = arrivedOf (conditionsOn f)
 
     abbrev goes : ℕ
-    goes = leftOf (f .road) (stepped (f .road) (f .period) state)
+    goes = leftOf (conditionsOn f .segments) (stepped (conditionsOn f) state)
 
     pub comes-most : comes ≤ 660000
-    comes-most = arrived-most (f .road) (f .period) road-good sheet-good
+    comes-most = arrived-most (conditionsOn f) force-good
 
     pub goes-most : goes ≤ 660000
-    goes-most = left-most (f .road) (f .period) state road-good sheet-good
+    goes-most = left-most (conditionsOn f) state force-good (turn-asks .1)
 
     pub turn-sums : (arrived + comes ≤ 3801600000) × (left + goes ≤ 3801600000) × (partsteps + (arrived + comes - (left + goes)) ≤ 3801600000 * 5760)
     turn-sums =
@@ -88,16 +106,16 @@ module _ (f : Facility) (k : ℕ) (ready : Ready f k) where
           omega (arith, s .partsteps-most, s .arrived-most, comes-most),
         )
 
-    pub turn-again : Turn f k (i + 1) (stepped (f .road) (f .period) state) (arrived + comes) (left + goes) (partsteps + (arrived + comes - (left + goes)))
-    unfolding stepOf stepsOf
+    pub turn-again : Turn f k (i + 1) (stepped (conditionsOn f) state) (arrived + comes) (left + goes) (partsteps + (arrived + comes - (left + goes)))
+    unfolding stepOf stepsOf conditionsOf
     turn-again =
         let s = t .sums in
         let n = few i h in
         let e : f .made + (i + 1) ≡ f .made + i + 1 = omega arith in
         record {
-          made = ap (λ (m : ℕ). record { road = f .road; period = f .period; taken = f .taken; made = m; state = stepped (f .road) (f .period) state; arrived = arrived + comes; left = left + goes; partsteps = partsteps + (arrived + comes - (left + goes)) }) e ∙ ap stepOf (t .made) ∙ ap (λ (j : ℕ). stepsOf j f) (sym (add-one i));
+          made = ap (λ (m : ℕ). record { road = f .road; period = f .period; taken = f .taken; made = m; state = stepped (conditionsOn f) state; arrived = arrived + comes; left = left + goes; partsteps = partsteps + (arrived + comes - (left + goes)) }) e ∙ ap stepOf (t .made) ∙ ap (λ (j : ℕ). stepsOf j f) (sym (add-one i));
           most = omega arith;
-          bounds = rw (one-more i h) (bounded-after (f .road) (f .period) state road-good sheet-good (steps f i) (t .bounds));
+          bounds = rw (one-more i h) (bounded-after (conditionsOn f) state force-good (t .bounds));
           sums = rw (one-more i h) (record {
             arrived-most = omega (arith, s .arrived-most, comes-most);
             left-most = omega (arith, s .left-most, goes-most);
@@ -106,7 +124,7 @@ module _ (f : Facility) (k : ℕ) (ready : Ready f k) where
         }
 
     -- the same of what the calls gave
-    pub turn-moved : (s : Stepped) → s ≡ record { state = stepped (f .road) (f .period) state; left = goes } → (a d : ℕ) → a ≡ comes → d ≡ arrived + a - (left + s .left)
+    pub turn-moved : (s : Stepped) → s ≡ record { state = stepped (conditionsOn f) state; left = goes } → (a d : ℕ) → a ≡ comes → d ≡ arrived + a - (left + s .left)
         → Turn f k (i + 1) (s .state) (arrived + a) (left + s .left) (partsteps + d)
     turn-moved s es a d ea ed = rw (ed, ea, es) turn-again
 

@@ -1,5 +1,5 @@
 -- The test at the door and what it says, both ways.
-use Prim.Native.Nat.{ℕ, _*_, _<_}
+use Prim.Native.Nat.{ℕ, zero, suc, _*_, _<_}
 use mathlib.Core.Bool.{Bool, true, false, _&&_, _||_}
 use mathlib.Core.Path.{_≡_, refl}
 use mathlib.Core.List.{List}
@@ -9,25 +9,27 @@ use borrow.Author.Tests.{leb-true, le-leb, eqb-true}
 use Rattle.sheets.specs.Allowed.{all-below, all-at, all-by, both, roadAllowed, periodAllowed}
 use Rattle.sheets.specs.Good.{GoodRoad, GoodPeriod, good-period}
 use Rattle.steps.specs.declared.State.{State}
-use Rattle.steps.specs.Step.{cellIn, segments}
-use Rattle.steps.specs.Bounds.{Bounded}
+use Rattle.steps.specs.Step.{cellIn}
+use Rattle.steps.specs.Held.{Bounded}
 use Rattle.facility.specs.declared.Facility.{Facility}
+use Rattle.conditions.specs.Conditions.{Under, segments}
+use Rattle.facility.specs.Calls.{sheetBy}
 use Rattle.facility.specs.Ready.{Summed, Sound}
 use Rattle.facility.specs.Sound.{stepsBy, counted, sheeted, heldIn, held, summed, sound}
 
 -- ---- the parts of the test
-pub held-bounded : (road : List ℕ) (t : ℕ) (state : State) → held (segments road) t state ≡ true → Bounded road t state
+pub held-bounded : (road : List ℕ) (t : ℕ) (state : State) → held (segments road) t state ≡ true → Bounded (segments road) t state
 unfolding held heldIn
 held-bounded road t state e =
     let b = both (all-below (λ i. heldIn t (cellIn state i)) (segments road)) (leb (state .origin) (20000 * t)) e in
     let at : (i : ℕ) → i < segments road → (leb (cellIn state i .n) 2880000 ≡ true) × (leb (cellIn state i .q) (10000 * t) ≡ true) =
     λ i h. both _ _ (all-at (λ i. heldIn t (cellIn state i)) (segments road) i (b .0) h) in
-    record { parts = λ i h. leb-true _ _ (at i h .0); queue = λ i h. leb-true _ _ (at i h .1); origin = leb-true _ _ (b .1) }
+    record { cells = λ i h. record { parts = leb-true _ _ (at i h .0); queue = leb-true _ _ (at i h .1) }; origin = leb-true _ _ (b .1) }
 
-pub bounded-held : (road : List ℕ) (t : ℕ) (state : State) → Bounded road t state → held (segments road) t state ≡ true
+pub bounded-held : (road : List ℕ) (t : ℕ) (state : State) → Bounded (segments road) t state → held (segments road) t state ≡ true
 unfolding held heldIn
 bounded-held road t state b =
-    let each : (i : ℕ) → i < segments road → heldIn t (cellIn state i) ≡ true = λ i h. rw (le-leb _ _ (b .parts i h), le-leb _ _ (b .queue i h)) in
+    let each : (i : ℕ) → i < segments road → heldIn t (cellIn state i) ≡ true = λ i h. rw (le-leb _ _ (b .cells i h .parts), le-leb _ _ (b .cells i h .queue)) in
     rw (all-by (λ i. heldIn t (cellIn state i)) (segments road) each, le-leb _ _ (b .origin))
 
 pub summed-in : (t a l p : ℕ) → summed t a l p ≡ true → Summed t a l p
@@ -75,3 +77,8 @@ in-force taken road period e h = sheet-by road period taken (eqb taken 0) refl e
 
 pub good-sheet : (taken : ℕ) (road period : List ℕ) → GoodRoad road → sheeted taken road period ≡ true → 0 < taken → GoodPeriod road period
 good-sheet taken road period g e h = good-period road period g (in-force taken road period e h)
+
+-- once one is taken, it is in force
+pub sheeted-by-some : (n : ℕ) (period : List ℕ) → 0 < n → sheetBy n period ≡ Under period
+sheeted-by-some zero period h = absurd (omega arith)
+sheeted-by-some (suc n) period h = refl

@@ -3,22 +3,36 @@ use Prim.Native.Nat.{ℕ, zero, suc, _+_, _-_}
 use mathlib.Core.Bool.{Bool, _&&_, not}
 use mathlib.Core.List.{List}
 use lib.Dec.{leb, ltb, eqb}
+use lib.ListN.{replicate}
 use Rattle.numbers.specs.Choice.{if_then_else_}
 use Rattle.numbers.specs.Writing.{Writing, Refused, writeAnswer, writeInto}
-use Rattle.sheets.specs.Parts.{segmentOf}
 use Rattle.sheets.specs.Read.{Rows, ReadRow, RefusedAt, readRoad, readPeriod, padded}
 use Rattle.sheets.specs.Write.{rowBytes, roadRow, periodRow}
 use Rattle.steps.specs.declared.Cell.{Cell}
-use Rattle.steps.specs.declared.Level.{Level}
-use Rattle.steps.specs.declared.Level.the-variants.{A}
-use Rattle.steps.specs.Step.{cellIn, segments, lanesAt, stepped, freshState, arrivedOf, leftOf, storedOf}
-use Rattle.steps.specs.Level.{levelOf}
+use Rattle.letters.specs.declared.Level.{Level}
+use Rattle.letters.specs.declared.Level.the-variants.{A}
+use Rattle.conditions.specs.Conditions.{Conditions, inForceAt, Sheet, None, Under, conditionsOf, segments}
+use Rattle.steps.specs.Step.{cellIn, stepped, freshState, arrivedOf, leftOf, storedOf}
+use Rattle.letters.specs.Level.{levelOf}
 use Rattle.facility.specs.declared.Facility.{Facility}
 use Rattle.facility.specs.declared.Reply.{Reply}
 use Rattle.facility.specs.declared.SegmentReport.{SegmentReport}
 use Rattle.facility.specs.declared.Sums.{Sums}
-use Rattle.facility.specs.Ledger.{noSheet, outside}
+use Rattle.facility.specs.Ledger.{outside}
 use Rattle.facility.specs.Sound.{sound}
+
+-- the row that stands for no sheet
+abbrev pub noSheet : List ℕ
+noSheet = replicate 452 0
+
+-- the sheet in force, by the number of sheets taken
+abbrev pub sheetBy : ℕ → List ℕ → Sheet
+sheetBy zero period = None
+sheetBy (suc n) period = Under period
+
+-- what is in force
+abbrev pub conditionsOn : Facility → Conditions
+conditionsOn f = conditionsOf (f .road) (sheetBy (f .taken) (f .period))
 
 -- a road just laid: no sheet, and all is zero
 unfoldable pub freshOn : List ℕ → Facility
@@ -88,9 +102,10 @@ takeOf f bytes =
 -- one step under the sheet in force: its arrived and its left are added to the two sums, then the first less the second to part-steps
 unfoldable pub stepOf : Facility → Facility
 stepOf f =
-    let next = stepped (f .road) (f .period) (f .state) in
-    let arrived = f .arrived + arrivedOf (f .road) (f .period) in
-    let left = f .left + leftOf (f .road) next in
+    let c = conditionsOn f in
+    let next = stepped c (f .state) in
+    let arrived = f .arrived + arrivedOf c in
+    let left = f .left + leftOf (c .segments) next in
     record {
       road = f .road;
       period = f .period;
@@ -124,7 +139,7 @@ abbrev pub noReport : ℕ → SegmentReport
 noReport number = record { refusal = number; n = 0; q = 0; main = 0; ramp = 0; off = 0; out = 0; level = A }
 
 unfoldable pub levelAt : Facility → ℕ → Level
-levelAt f i = levelOf (cellIn (f .state) i .n) (segmentOf (f .road) i .length) (lanesAt (f .road) (f .period) i)
+levelAt f i = levelOf (cellIn (f .state) i .n) (inForceAt (conditionsOn f) i .length) (inForceAt (conditionsOn f) i .lanes)
 
 -- Segment report, segments counted from 1: 9, 6
 unfoldable pub reportOf : Facility → ℕ → SegmentReport
@@ -137,7 +152,7 @@ reportOf f i =
 unfoldable pub totalsOf : Facility → Sums
 totalsOf f =
     if isEmpty f then record { refusal = 9; arrived = 0; left = 0; stored = 0; partsteps = 0 }
-    else record { refusal = 0; arrived = f .arrived; left = f .left; stored = storedOf (f .road) (f .state); partsteps = f .partsteps }
+    else record { refusal = 0; arrived = f .arrived; left = f .left; stored = storedOf (segments (f .road)) (f .state); partsteps = f .partsteps }
 
 -- Write the road: 9, 7; the answer, and the buffer after it
 unfoldable pub writeRoadOf : Facility → List ℕ → ℕ → Writing

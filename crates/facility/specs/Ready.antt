@@ -3,7 +3,8 @@ use Prim.Native.Nat.{ℕ, _+_, _*_, _≤_, _<_}
 use mathlib.Core.Bool.{true}
 use mathlib.Core.Path.{_≡_}
 use Rattle.sheets.specs.Allowed.{roadAllowed}
-use Rattle.steps.specs.Bounds.{Bounded}
+use Rattle.steps.specs.Held.{Bounded}
+use Rattle.conditions.specs.Conditions.{segments}
 use Rattle.facility.specs.declared.Facility.{Facility}
 use Rattle.facility.specs.Sound.{stepsBy, sheeted}
 
@@ -19,7 +20,7 @@ pub record Sound (f : Facility) : Type 0 where
   pub few : f .taken ≤ 96
   pub short : f .made ≤ 60
   pub sheet : sheeted (f .taken) (f .road) (f .period) ≡ true
-  pub bounds : Bounded (f .road) (stepsBy (f .taken) (f .made)) (f .state)
+  pub bounds : Bounded (segments (f .road)) (stepsBy (f .taken) (f .made)) (f .state)
   pub sums : Summed (stepsBy (f .taken) (f .made)) (f .arrived) (f .left) (f .partsteps)
 
 -- a sound facility with a sheet in force and k steps left under it

@@ -1,7 +1,9 @@
 // The calls on a facility: a road with its state, its sheet in force and its sums, by value.
+use arithmetic::less;
+use arithmetic::wide;
+use letters::Level;
 use numbers::Written;
 use steps::Cell;
-use steps::Level;
 use steps::State;
 ghost use mathlib.Core.Path.{_≡_};
 ghost use mathlib.Core.Bool.{true};
@@ -9,7 +11,8 @@ ghost use Prim.Native.Nat.{_+_, _-_, _≤_, _<_};
 ghost use Rattle.numbers.specs.Writing.{writing};
 ghost use Rattle.sheets.specs.Good.{GoodRoad};
 ghost use Rattle.sheets.specs.Read.{readPeriod};
-ghost use Rattle.steps.specs.Step.{segments, cellIn};
+ghost use Rattle.conditions.specs.Conditions.{segments};
+ghost use Rattle.steps.specs.Step.{cellIn};
 ghost use Rattle.facility.specs.Sound.{stepsBy, counted, sheeted, heldIn, held, summed, sound};
 ghost use Rattle.facility.specs.Calls.{freshOn, refused, layOf, unfinished, withSheet, takenBy, takeOf, stepsOf, runOf, reported, noReport, levelAt, reportOf, totalsOf, writeRoadOf, roadBuffer, writePeriodOf, periodBuffer};
 ghost use Rattle.facility.specs.Ready.{Ready};
@@ -54,19 +57,6 @@ pub struct Sums {
     pub left: u64,
     pub stored: u64,
     pub partsteps: u64,
-}
-
-fn wide(x: u32) -> u64
-    ensures { λ r. ⌜ r ≡ x ⌝ }
-{
-    x as u64
-}
-
-// The difference, zero where it would be negative.
-fn less(a: u64, b: u64) -> u64
-    ensures { λ r. ⌜ r ≡ a - b ⌝ }
-{
-    if a <= b { 0 } else { a - b }
 }
 
 // The steps made so far.
@@ -269,14 +259,16 @@ fn make_steps(f: Facility, k: u32) -> Facility
 {
     let road = f.road;
     let period = f.period;
-    let arrives = steps::arrived(&road, &period);
+    let mut row = [0u32; 707];
+    conditions::fill(&road, &period, &mut row);
+    let arrives = steps::arrived(&row);
     let mut state = f.state;
     let mut arrived = f.arrived;
     let mut left = f.left;
     let mut partsteps = f.partsteps;
     let mut i: u32 = 0;
     while i < k {
-        let next = steps::step(&road, &period, state);
+        let next = steps::step(&row, state);
         let after = next.state;
         state = after;
         arrived += arrives;
@@ -349,7 +341,7 @@ fn report_at(f: Facility, i: usize) -> SegmentReport
     let state = f.state;
     let cell = state.cells[i];
     let seg = sheets::segment_at(&road, i);
-    let level = steps::level_of(cell.n, seg.length as u32, seg.lanes as u32);
+    let level = letters::level_of(cell.n, seg.length as u32, seg.lanes as u32);
     SegmentReport {
         refusal: 0,
         n: cell.n,
@@ -398,7 +390,7 @@ pub fn totals(f: Facility) -> Sums
         refusal: 0,
         arrived: f.arrived,
         left: f.left,
-        stored: steps::stored(&road, state),
+        stored: steps::stored(road[0] as usize, state),
         partsteps: f.partsteps,
     }
 }

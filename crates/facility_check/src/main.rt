@@ -4,8 +4,8 @@ use facility::Facility;
 use facility::Reply;
 use facility::SegmentReport;
 use facility::Sums;
+use letters::Level;
 use numbers::Written;
-use steps::Level;
 ghost use Prim.Native.Nat.{_+_, _<_, _≤_};
 
 // Where the next record starts, and the facility that it gets.

@@ -8,10 +8,13 @@ use Rattle.numbers.specs.Field.{inRange, readField}
 use Rattle.sheets.specs.Layout.{roadRange, periodRange, rangeOf, countOf}
 use Rattle.sheets.specs.Parts.{roadGlobals, segmentOf, periodGlobals, rampOf}
 use Rattle.sheets.specs.Read.{onto, andThen, fields, readRow, roadFrom, readRoad, readPeriod, sheetOf}
-use Rattle.steps.specs.declared.Level.the-variants.{D}
-use Rattle.steps.specs.Rules.{largest, roundedUp, partsAt, wishToLeave, off, through, mostLeaving, rampWish, entrance, supply, rampFlow, mainFlow, leaving}
-use Rattle.steps.specs.Step.{lanesAt, capacityAt, jamAt, criticalAt, offAt, throughAt, wishAt, mostAt, mainWishAt, rampWishAt, queuedAt, entranceAt, supplyAt, rampFlowAt, mainFlowAt, leavingAt, nextCell, replaced, stepped, sumTo, arrivedOf, leftOf, storedOf}
-use Rattle.steps.specs.Level.{holdsAtMost, levelBy, levelOf}
+use Rattle.letters.specs.declared.Level.the-variants.{D}
+use Rattle.conditions.specs.Values.{valuesTo}
+use Rattle.conditions.specs.Conditions.{partsAt, loweredBy, inForce, demandUnder, exitUnder, rampUnder, conditionsOf}
+use Rattle.steps.specs.Rules.{largest, roundedUp, wishToLeave, off, through, mostLeaving, rampWish, entrance, supply, rampFlow, mainFlow, leaving}
+use Rattle.steps.specs.Place.{splitOf, wishOf, mostOf, onwardOf, queuedOf, rampWishOf, entranceOf, supplyOf, inflowOf, leavingOf, movedOf}
+use Rattle.steps.specs.Step.{mainWishAt, queuedAt, mainFlowAt, replaced, stepped, sumTo, arrivedOf, leftOf, storedOf}
+use Rattle.letters.specs.Level.{holdsAtMost, levelBy, levelOf}
 use Rattle.facility.specs.declared.Facility.{Facility}
 use Rattle.facility.specs.Ledger.{Call, Take, Run, Report, Totals, Answer, Refused, Taken, Ran, Reported, Summed, arrivedIn, leftIn, partstepsIn, opened, answers}
 use Rattle.facility.proofs.Played.{Played}
@@ -39,7 +42,7 @@ calls =
     ∷ Totals
     ∷ []
 
-computed : answers (roadOf road) opened calls
+computed : answers (opened (roadOf road)) calls
     ≡ Refused 10 0
     ∷ Refused 1 1
     ∷ Refused 14 0
@@ -52,7 +55,7 @@ computed : answers (roadOf road) opened calls
     ∷ Refused 11 0
     ∷ Summed 14400 8492 5908 15908
     ∷ []
-unfolding readNumber groups last more placed inRange readField roadRange periodRange rangeOf countOf roadGlobals segmentOf periodGlobals rampOf onto andThen fields readRow roadFrom readRoad readPeriod sheetOf largest roundedUp partsAt wishToLeave off through mostLeaving rampWish entrance supply rampFlow mainFlow leaving lanesAt capacityAt jamAt criticalAt offAt throughAt wishAt mostAt mainWishAt rampWishAt queuedAt entranceAt supplyAt rampFlowAt mainFlowAt leavingAt nextCell replaced stepped sumTo arrivedOf leftOf storedOf holdsAtMost levelBy levelOf arrivedIn leftIn partstepsIn
+unfolding readNumber groups last more placed inRange readField roadRange periodRange rangeOf countOf roadGlobals segmentOf periodGlobals rampOf onto andThen fields readRow roadFrom readRoad readPeriod sheetOf largest roundedUp partsAt wishToLeave off through mostLeaving rampWish entrance supply rampFlow mainFlow leaving valuesTo loweredBy inForce demandUnder exitUnder rampUnder conditionsOf splitOf wishOf mostOf onwardOf queuedOf rampWishOf entranceOf supplyOf inflowOf leavingOf movedOf mainWishAt queuedAt mainFlowAt replaced stepped sumTo arrivedOf leftOf storedOf holdsAtMost levelBy levelOf arrivedIn leftIn partstepsIn
 computed = refl
 
 pub example : (xs : List Answer) (g : Facility) → Played road calls xs g

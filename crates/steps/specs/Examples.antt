@@ -1,22 +1,16 @@
--- The rules compute: the letters at their limits, and steps of studies whose states were worked out apart from these definitions.
+-- The rules compute: steps of studies whose states were worked out apart from these definitions.
 use Prim.Native.Nat.{ℕ, zero, suc}
 use mathlib.Core.Path.{_≡_, refl}
-use mathlib.Core.List.{List, [], _∷_, map}
+use mathlib.Core.List.{List, [], _∷_}
 use lib.ListN.{replicate}
 use Rattle.sheets.specs.Parts.{roadGlobals, segmentOf, periodGlobals, rampOf}
 use Rattle.steps.specs.declared.Cell.{Cell}
 use Rattle.steps.specs.declared.State.{State}
-use Rattle.steps.specs.Rules.{largest, roundedUp, partsAt, wishToLeave, off, through, mostLeaving, rampWish, entrance, supply, rampFlow, mainFlow, leaving}
-use Rattle.steps.specs.declared.Level.the-variants.{A, B, C, D, E, F}
-use Rattle.steps.specs.Level.{holdsAtMost, levelBy, levelOf}
-use Rattle.steps.specs.Step.{noCell, segments, lanesAt, capacityAt, jamAt, criticalAt, offAt, throughAt, wishAt, mostAt, mainWishAt, rampWishAt, queuedAt, entranceAt, supplyAt, rampFlowAt, mainFlowAt, leavingAt, nextCell, replaced, stepped}
-
--- the letters at the limits of a lane of 1320 feet, and one part above each
-levels :
-    map (λ n. levelOf n 1320 1) (660 ∷ 661 ∷ 1080 ∷ 1081 ∷ 1560 ∷ 1561 ∷ 2100 ∷ 2101 ∷ 2700 ∷ 2701 ∷ []) ≡
-    A ∷ B ∷ B ∷ C ∷ C ∷ D ∷ D ∷ E ∷ E ∷ F ∷ []
-unfolding levelOf levelBy holdsAtMost
-levels = refl
+use Rattle.steps.specs.Rules.{largest, roundedUp, wishToLeave, off, through, mostLeaving, rampWish, entrance, supply, rampFlow, mainFlow, leaving}
+use Rattle.steps.specs.Step.{noCell, mainWishAt, queuedAt, mainFlowAt, replaced, stepped}
+use Rattle.steps.specs.Place.{splitOf, wishOf, mostOf, onwardOf, queuedOf, rampWishOf, entranceOf, supplyOf, inflowOf, leavingOf, movedOf}
+use Rattle.conditions.specs.Conditions.{partsAt, loweredBy, segments, Under, conditionsOf, demandUnder, exitUnder, rampUnder, inForce}
+use Rattle.conditions.specs.Values.{valuesTo}
 
 cell : (n q f r off y : ℕ) → Cell
 cell n q f r o y = record { n = n; q = q; main = f; ramp = r; off = o; out = y }
@@ -28,7 +22,7 @@ laid ns = record { cells = replicate ns noCell; origin = 0; exit = 0 }
 -- so many steps from a road just laid
 after : ℕ → List ℕ → List ℕ → State
 after zero road period = laid (segments road)
-after (suc k) road period = stepped road period (after k road period)
+after (suc k) road period = stepped (conditionsOf road (Under period)) (after k road period)
 
 -- the worked study, 3 steps
 workedRoad : List ℕ
@@ -38,7 +32,7 @@ workedPeriod : List ℕ
 workedPeriod = 1 ∷ 4800 ∷ 10000 ∷ 0 ∷ 0 ∷ []
 
 worked : after 3 workedRoad workedPeriod ≡ record { cells = cell 4092 0 4092 0 0 4092 ∷ []; origin = 1816; exit = 4092 }
-unfolding workedRoad workedPeriod after laid cell stepped replaced nextCell leavingAt mainFlowAt rampFlowAt supplyAt entranceAt queuedAt rampWishAt mainWishAt mostAt wishAt throughAt offAt criticalAt jamAt capacityAt lanesAt roadGlobals segmentOf periodGlobals rampOf leaving mainFlow rampFlow supply entrance rampWish mostLeaving through off wishToLeave partsAt roundedUp largest
+unfolding workedRoad workedPeriod after laid cell stepped replaced mainFlowAt queuedAt mainWishAt splitOf wishOf mostOf onwardOf queuedOf rampWishOf entranceOf supplyOf inflowOf leavingOf movedOf conditionsOf demandUnder exitUnder rampUnder inForce valuesTo roadGlobals segmentOf periodGlobals rampOf leaving mainFlow rampFlow supply entrance loweredBy rampWish mostLeaving through off wishToLeave partsAt roundedUp largest
 worked = refl
 
 -- an off-ramp that takes nobody, and one of share 1000, 8 steps
@@ -49,7 +43,7 @@ blockedOffRampPeriod : List ℕ
 blockedOffRampPeriod = 4 ∷ 5000 ∷ 20000 ∷ 0 ∷ 0 ∷ 0 ∷ 0 ∷ 0 ∷ 0 ∷ 0 ∷ 0 ∷ []
 
 blockedOffRamp : after 8 blockedOffRampRoad blockedOffRampPeriod ≡ record { cells = cell 9960 0 5000 0 0 4961 ∷ cell 30028 0 4961 0 0 2 ∷ cell 3 0 2 0 2 2 ∷ cell 0 0 0 0 0 0 ∷ []; origin = 0; exit = 0 }
-unfolding blockedOffRampRoad blockedOffRampPeriod after laid cell stepped replaced nextCell leavingAt mainFlowAt rampFlowAt supplyAt entranceAt queuedAt rampWishAt mainWishAt mostAt wishAt throughAt offAt criticalAt jamAt capacityAt lanesAt roadGlobals segmentOf periodGlobals rampOf leaving mainFlow rampFlow supply entrance rampWish mostLeaving through off wishToLeave partsAt roundedUp largest
+unfolding blockedOffRampRoad blockedOffRampPeriod after laid cell stepped replaced mainFlowAt queuedAt mainWishAt splitOf wishOf mostOf onwardOf queuedOf rampWishOf entranceOf supplyOf inflowOf leavingOf movedOf conditionsOf demandUnder exitUnder rampUnder inForce valuesTo roadGlobals segmentOf periodGlobals rampOf leaving mainFlow rampFlow supply entrance loweredBy rampWish mostLeaving through off wishToLeave partsAt roundedUp largest
 blockedOffRamp = refl
 
 -- metered ramps, one meter at zero, 5 steps
@@ -60,7 +54,7 @@ meteredPeriod : List ℕ
 meteredPeriod = 3 ∷ 3500 ∷ 20000 ∷ 600 ∷ 240 ∷ 900 ∷ 400 ∷ 700 ∷ 0 ∷ []
 
 metered : after 5 meteredRoad meteredPeriod ≡ record { cells = cell 7246 1800 3500 240 0 3506 ∷ cell 6852 2500 3506 400 0 2947 ∷ cell 4390 3500 2947 0 0 1444 ∷ []; origin = 0; exit = 1444 }
-unfolding meteredRoad meteredPeriod after laid cell stepped replaced nextCell leavingAt mainFlowAt rampFlowAt supplyAt entranceAt queuedAt rampWishAt mainWishAt mostAt wishAt throughAt offAt criticalAt jamAt capacityAt lanesAt roadGlobals segmentOf periodGlobals rampOf leaving mainFlow rampFlow supply entrance rampWish mostLeaving through off wishToLeave partsAt roundedUp largest
+unfolding meteredRoad meteredPeriod after laid cell stepped replaced mainFlowAt queuedAt mainWishAt splitOf wishOf mostOf onwardOf queuedOf rampWishOf entranceOf supplyOf inflowOf leavingOf movedOf conditionsOf demandUnder exitUnder rampUnder inForce valuesTo roadGlobals segmentOf periodGlobals rampOf leaving mainFlow rampFlow supply entrance loweredBy rampWish mostLeaving through off wishToLeave partsAt roundedUp largest
 metered = refl
 
 -- five segments of uneven kinds, 4 steps
@@ -71,7 +65,7 @@ randomPeriod : List ℕ
 randomPeriod = 5 ∷ 20000 ∷ 20000 ∷ 600 ∷ 10000 ∷ 9912 ∷ 0 ∷ 600 ∷ 0 ∷ 0 ∷ 900 ∷ 3210 ∷ 8933 ∷ []
 
 random : after 4 randomRoad randomPeriod ≡ record { cells = cell 24544 2400 7 0 0 0 ∷ cell 0 39648 0 0 0 0 ∷ cell 0 2400 0 0 0 0 ∷ cell 0 0 0 0 0 0 ∷ cell 1 12836 0 1 0 1 ∷ []; origin = 55456; exit = 1 }
-unfolding randomRoad randomPeriod after laid cell stepped replaced nextCell leavingAt mainFlowAt rampFlowAt supplyAt entranceAt queuedAt rampWishAt mainWishAt mostAt wishAt throughAt offAt criticalAt jamAt capacityAt lanesAt roadGlobals segmentOf periodGlobals rampOf leaving mainFlow rampFlow supply entrance rampWish mostLeaving through off wishToLeave partsAt roundedUp largest
+unfolding randomRoad randomPeriod after laid cell stepped replaced mainFlowAt queuedAt mainWishAt splitOf wishOf mostOf onwardOf queuedOf rampWishOf entranceOf supplyOf inflowOf leavingOf movedOf conditionsOf demandUnder exitUnder rampUnder inForce valuesTo roadGlobals segmentOf periodGlobals rampOf leaving mainFlow rampFlow supply entrance loweredBy rampWish mostLeaving through off wishToLeave partsAt roundedUp largest
 random = refl
 
 -- a segment at its jam, 8 steps
@@ -82,5 +76,5 @@ jamPeriod : List ℕ
 jamPeriod = 2 ∷ 20000 ∷ 20000 ∷ 0 ∷ 0 ∷ 0 ∷ 0 ∷ []
 
 jam : after 8 jamRoad jamPeriod ≡ record { cells = cell 1363 0 0 0 0 0 ∷ cell 0 0 0 0 0 0 ∷ []; origin = 158637; exit = 0 }
-unfolding jamRoad jamPeriod after laid cell stepped replaced nextCell leavingAt mainFlowAt rampFlowAt supplyAt entranceAt queuedAt rampWishAt mainWishAt mostAt wishAt throughAt offAt criticalAt jamAt capacityAt lanesAt roadGlobals segmentOf periodGlobals rampOf leaving mainFlow rampFlow supply entrance rampWish mostLeaving through off wishToLeave partsAt roundedUp largest
+unfolding jamRoad jamPeriod after laid cell stepped replaced mainFlowAt queuedAt mainWishAt splitOf wishOf mostOf onwardOf queuedOf rampWishOf entranceOf supplyOf inflowOf leavingOf movedOf conditionsOf demandUnder exitUnder rampUnder inForce valuesTo roadGlobals segmentOf periodGlobals rampOf leaving mainFlow rampFlow supply entrance loweredBy rampWish mostLeaving through off wishToLeave partsAt roundedUp largest
 jam = refl

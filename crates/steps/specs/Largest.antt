@@ -1,14 +1,12 @@
--- The largest number up to a bound that passes a test: what is known of it; and how off(y) and through(y) rise.
+-- The largest number up to a bound that passes a test: what is known of it.
 use Prim.Native.Nat.{ℕ, zero, suc, _+_, _≤_, min}
 use mathlib.Core.Bool.{Bool, true, false}
 use mathlib.Core.Path.{_≡_, refl}
-use mathlib.Core.Logic.{_↔_}
-use native.Mathlib.Nat.{mul-le-mul-left, mul-le-mul-right}
 use native.Mathlib.Omega.{arith}
 use lib.Dec.{leb}
 use borrow.Author.Tests.{leb-true, leb-false}
 use Rattle.numbers.specs.Choice.{if_then_else_}
-use Rattle.steps.specs.Rules.{largest, off, through}
+use Rattle.steps.specs.Rules.{largest}
 
 -- ---- of any test
 chosen-most : (b x : ℕ) (t : Bool) → x ≤ b → (if t then suc b else x) ≤ suc b
@@ -47,16 +45,6 @@ unfolding largest
 largest-min p m zero h = omega arith
 largest-min p m (suc b) h = rw (h (suc b), largest-min p m b h) (one-more b m (leb (suc b) m) refl)
 
-one-test : (a b c d : ℕ) (s t : Bool) → leb a b ≡ s → leb c d ≡ t → (a ≤ b) ↔ (c ≤ d) → s ≡ t
-one-test a b c d true true p q h = refl
-one-test a b c d false false p q h = refl
-one-test a b c d true false p q h = absurd (omega (arith, leb-false c d q, h .0 (leb-true a b p)))
-one-test a b c d false true p q h = absurd (omega (arith, leb-false a b p, h .1 (leb-true c d q)))
-
--- two tests with one meaning are one
-pub leb-iff : (a b c d : ℕ) → (a ≤ b) ↔ (c ≤ d) → leb a b ≡ leb c d
-leb-iff a b c d h = one-test a b c d (leb a b) (leb c d) refl refl h
-
 -- ---- of a test by a function that starts at zero and rises by at most one
 reaches : (g : ℕ → ℕ) (f b x : ℕ) (t : Bool) →
     leb (g (suc b)) f ≡ t →
@@ -77,33 +65,3 @@ unfolding largest
 largest-reaches g f zero z s h = omega arith
 largest-reaches g f (suc b) z s h =
     reaches g f b (largest (λ y. leb (g y) f) b) (leb (g (suc b)) f) refl h (s b) (largest-reaches g f b z s)
-
--- ---- off(y) and through(y)
-pub off-zero : (s : ℕ) → off s 0 ≡ 0
-unfolding off
-off-zero s = omega arith
-
-pub off-rises : (s x y : ℕ) → x ≤ y → off s x ≤ off s y
-unfolding off
-off-rises s x y h = omega (arith, mul-le-mul-right s h)
-
-pub off-most : (s y : ℕ) → s ≤ 1000 → off s y ≤ y
-unfolding off
-off-most s y h = omega (arith, mul-le-mul-left y h)
-
--- nobody is lost and nobody doubled in the split
-pub split-whole : (s y : ℕ) → s ≤ 1000 → off s y + through s y ≡ y
-unfolding through
-split-whole s y h = omega (arith, off-most s y h)
-
-pub through-zero : (s : ℕ) → through s 0 ≡ 0
-unfolding through
-through-zero s = omega arith
-
-pub through-rises-by-one : (s y : ℕ) → through s (suc y) ≤ suc (through s y)
-unfolding through
-through-rises-by-one s y = omega (arith, off-rises s y (suc y) (omega arith))
-
-pub through-most : (s y : ℕ) → through s y ≤ y
-unfolding through
-through-most s y = omega arith

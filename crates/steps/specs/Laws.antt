@@ -1,4 +1,4 @@
--- The laws of one step, each at any segment.
+-- The laws of one step: at one segment, from what is in force there and its cell; then along the road.
 use Prim.Native.Nat.{ℕ, zero, suc, _+_, _-_, _*_, _/_, _≤_, _<_, min, max}
 use mathlib.Core.Bool.{Bool, true, false}
 use mathlib.Core.List.{List}
@@ -8,161 +8,158 @@ use lib.ListN.{length}
 use lib.Dec.{ltb}
 use borrow.Author.Tests.{lt-ltb, le-ltb}
 use Rattle.numbers.specs.Choice.{if_then_else_}
-use Rattle.sheets.specs.Parts.{segmentOf, periodGlobals, rampOf}
-use Rattle.sheets.specs.Good.{GoodRoad}
+use Rattle.steps.specs.declared.Cell.{Cell}
+use Rattle.steps.specs.declared.Flow.{Flow}
+use Rattle.conditions.specs.declared.InForce.{InForce}
 use Rattle.steps.specs.declared.State.{State}
-use Rattle.steps.specs.Rules.{mainFlow}
-use Rattle.steps.specs.Step.{noCell, segments, capacityAt, lanesAt, jamAt, criticalAt, cellAt, offAt, throughAt, wishAt, mostAt, mainWishAt, rampWishAt, entranceAt, supplyAt, rampFlowAt, mainFlowAt, leavingAt, nextCell, stepped}
-use Rattle.steps.specs.Formulas.{critical-below-jam, ramp-flow-share-least, entrance-most, leaving-most, leaving-through, main-flow-most, merge-exact, most-leaving-most, most-leaving-off, parts-most, ramp-flow-most, ramp-wish-most-queue, ramp-wish-most-ramp, supply-most-entrance, supply-most-room, wish-most-capacity, wish-most-parts}
-use Rattle.steps.specs.Largest.{off-rises, split-whole}
+use Rattle.steps.specs.Rules.{off, through, entrance}
+use Rattle.conditions.specs.Conditions.{Conditions, inForceAt}
+use Rattle.steps.specs.Place.{splitOf, wishOf, mostOf, onwardOf, rampWishOf, entranceOf, supplyOf, inflowOf, leavingOf, movedOf}
+use Rattle.steps.specs.Step.{noCell, cellIn, mainWishAt, rampWishAt, supplyAt, flowAt, mainFlowAt, leavingAt, nextCell, stepped}
+use Rattle.steps.specs.Formulas.{entrance-most, main-flow-most, merge-exact, ramp-flow-most, ramp-flow-share-least, ramp-wish-most-queue, ramp-wish-most-limit, supply-most-entrance, supply-most-room, wish-most-capacity, wish-most-parts}
+use Rattle.steps.specs.Split.{GoodSplit, off-rises, split-whole, most-leaving-most, most-leaving-off, leaving-most, leaving-through}
+use Rattle.conditions.specs.Good.{GoodPlace, GoodConditions}
+use Rattle.steps.specs.Held.{Held, Bounded}
 use Rattle.steps.specs.Sums.{length-replaced, replaced-at}
 
--- Q is below J
-pub below-jam : (road period : List ℕ) → GoodRoad road → (i : ℕ) → i < segments road → criticalAt road period i < jamAt road period i
-unfolding jamAt criticalAt lanesAt
-below-jam road period good i h =
-    let s = good .segment i h in
-    critical-below-jam _ _ _ _ (good .jam .0) (good .critical .1) (s .lanes .0) (s .length .0)
+module _ (here : InForce) (cell : Cell) where
+  pub good-split : {t : ℕ} → GoodPlace here → Held t cell → GoodSplit (splitOf here cell)
+  unfolding splitOf
+  good-split good held = record { share = good .share }
 
--- and J is at most 2,880,000
-pub jam-most : (road period : List ℕ) → GoodRoad road → (i : ℕ) → i < segments road → jamAt road period i ≤ 2880000
-unfolding jamAt lanesAt
-jam-most road period good i h =
-    let s = good .segment i h in
-    parts-most _ _ _ (good .jam .1) (s .lanes .1) (s .length .1)
+  -- ---- what the node at its entrance lets in, of M and whether a queue stands before it
+  module _ (m : ℕ) (queued : Bool) where
+    -- exactly the smaller of what wished to enter and what could be taken
+    pub inflow-exact :
+        inflowOf here cell m queued .main + inflowOf here cell m queued .ramp ≡
+        min (m + rampWishOf here cell) (supplyOf here cell queued)
+    unfolding inflowOf
+    inflow-exact = merge-exact _ _ _ _
 
-module _ (road period : List ℕ) (state : State) where
-  -- ---- what a node lets in
-  pub main-flow-at : (i : ℕ) → i < segments road → mainFlowAt road period state i ≡ mainFlow (mainWishAt road period state i) (supplyAt road period state i) (rampFlowAt road period state i)
+    pub main-wished : inflowOf here cell m queued .main ≤ m
+    unfolding inflowOf
+    main-wished = main-flow-most _ _ _
+
+    pub ramp-wished : inflowOf here cell m queued .ramp ≤ rampWishOf here cell
+    unfolding inflowOf
+    ramp-wished = ramp-flow-most _ _ _ _
+
+    -- the ramp gets its share of the supply, or all that wish
+    pub ramp-share : min (rampWishOf here cell) (supplyOf here cell queued / (2 * here .lanes)) ≤ inflowOf here cell m queued .ramp
+    unfolding inflowOf
+    ramp-share = ramp-flow-share-least _ _ _ _
+
+    pub supply-capacity : GoodPlace here → supplyOf here cell queued ≤ here .capacity
+    unfolding supplyOf entranceOf
+    supply-capacity good =
+        omega (arith, supply-most-entrance (entrance (here .capacity) (here .lowered) queued) (here .capacity) (here .jam) (here .critical) (cell .n), entrance-most (here .capacity) (here .lowered) queued (good .lowered))
+
+    pub supply-room : supplyOf here cell queued ≤ here .jam - cell .n
+    unfolding supplyOf
+    supply-room = supply-most-room _ _ _ _ _
+
+    -- at most the capacity
+    pub taken-in : GoodPlace here → inflowOf here cell m queued .main + inflowOf here cell m queued .ramp ≤ here .capacity
+    taken-in good = omega (arith, inflow-exact, supply-capacity good)
+
+    pub ramp-queue : inflowOf here cell m queued .ramp ≤ cell .q + here .demand
+    unfolding rampWishOf
+    ramp-queue = omega (arith, ramp-wished, ramp-wish-most-queue (cell .q) (here .demand) (here .limit))
+
+    pub ramp-limit : inflowOf here cell m queued .ramp ≤ here .limit
+    unfolding rampWishOf
+    ramp-limit = omega (arith, ramp-wished, ramp-wish-most-limit (cell .q) (here .demand) (here .limit))
+
+    -- after the step: at most the jam, and at most what was there where that was more
+    held : (n f r y j : ℕ) → f + r ≤ j - n → n + f + r - y ≤ max n j
+    held n f r y j h = omega arith
+
+    pub held-most : (ahead : ℕ) → movedOf here cell (inflowOf here cell m queued) ahead .n ≤ max (cell .n) (here .jam)
+    unfolding movedOf
+    held-most ahead = held _ _ _ _ _ (omega (arith, inflow-exact, supply-room))
+
+  -- ---- what it lets out, of the flow ahead
+  pub most-parts : mostOf here cell ≤ cell .n
+  unfolding mostOf wishOf
+  most-parts = omega (arith, most-leaving-most (splitOf here cell) (here .offramp) (wishOf here cell), wish-most-parts (cell .n) (here .capacity) (here .speed) (here .length))
+
+  pub most-capacity : mostOf here cell ≤ here .capacity
+  unfolding mostOf wishOf
+  most-capacity = omega (arith, most-leaving-most (splitOf here cell) (here .offramp) (wishOf here cell), wish-most-capacity (cell .n) (here .capacity) (here .speed) (here .length))
+
+  module _ (ahead : ℕ) where
+    leaving-at-most : leavingOf here cell ahead ≤ mostOf here cell
+    unfolding leavingOf
+    leaving-at-most = leaving-most _ _ _
+
+    pub let-out : leavingOf here cell ahead ≤ here .capacity
+    let-out = omega (arith, leaving-at-most, most-capacity)
+
+    pub let-out-parts : leavingOf here cell ahead ≤ cell .n
+    let-out-parts = omega (arith, leaving-at-most, most-parts)
+
+    -- what leaves by the mainline is exactly what enters the next
+    pub goes-on : ahead ≤ onwardOf here cell → through (splitOf here cell) (leavingOf here cell ahead) ≡ ahead
+    unfolding leavingOf onwardOf
+    goes-on h = leaving-through _ _ _ h
+
+    -- and nobody is lost or doubled in the split
+    pub all-go : GoodSplit (splitOf here cell) → off (splitOf here cell) (leavingOf here cell ahead) + through (splitOf here cell) (leavingOf here cell ahead) ≡ leavingOf here cell ahead
+    all-go good = split-whole _ _ good
+
+    pub off-most-at : GoodSplit (splitOf here cell) → off (splitOf here cell) (leavingOf here cell ahead) ≤ here .offramp
+    unfolding mostOf
+    off-most-at good =
+        omega (arith, off-rises (splitOf here cell) _ _ leaving-at-most, most-leaving-off (splitOf here cell) (here .offramp) (wishOf here cell) good)
+
+-- ---- along the road
+pub split-at : (c : Conditions) (state : State) {t : ℕ} → GoodConditions c → Bounded (c .segments) t state → (i : ℕ) → i < c .segments → GoodSplit (splitOf (inForceAt c i) (cellIn state i))
+split-at c state good bounded i h = good-split _ _ (good .place i h) (bounded .cells i h)
+
+module _ (c : Conditions) (state : State) where
+  pub main-flow-at : (i : ℕ) → i < c .segments → mainFlowAt c state i ≡ flowAt c state i .main
   unfolding mainFlowAt
-  main-flow-at i h = rw (lt-ltb i (segments road) h)
+  main-flow-at i h = rw (lt-ltb i (c .segments) h)
 
-  -- exactly the smaller of what wished to enter and what could be taken
-  pub inflow-exact : (i : ℕ) →
-      i < segments road →
-      mainFlowAt road period state i + rampFlowAt road period state i ≡
-      min (mainWishAt road period state i + rampWishAt road period state i) (supplyAt road period state i)
-  unfolding rampFlowAt
-  inflow-exact i h = rw (main-flow-at i h) (merge-exact _ _ _ _)
-
-  -- and at the exit, of M and X
-  pub exit-exact :
-      mainFlowAt road period state (segments road) ≡
-      min (mainWishAt road period state (segments road)) (periodGlobals period .exit)
+  -- at the exit, the smaller of M and X
+  pub exit-exact : mainFlowAt c state (c .segments) ≡ min (mainWishAt c state (c .segments)) (c .exit)
   unfolding mainFlowAt
-  exit-exact = rw (le-ltb (segments road) (segments road) (omega arith))
+  exit-exact = rw (le-ltb (c .segments) (c .segments) (omega arith))
 
-  chosen-most : (m p r x : ℕ) (t : Bool) → (if t then mainFlow m p r else min m x) ≤ m
-  chosen-most m p r x true = main-flow-most m p r
-  chosen-most m p r x false = omega arith
+  chosen-most : (a m x : ℕ) (t : Bool) → a ≤ m → (if t then a else min m x) ≤ m
+  chosen-most a m x true h = h
+  chosen-most a m x false h = omega arith
 
   -- at no node more than wished to by the mainline
-  pub main-flow-wished : (i : ℕ) → mainFlowAt road period state i ≤ mainWishAt road period state i
+  pub main-flow-wished : (i : ℕ) → mainFlowAt c state i ≤ mainWishAt c state i
   unfolding mainFlowAt
-  main-flow-wished i = chosen-most _ _ _ _ (ltb i (segments road))
+  main-flow-wished i = chosen-most _ _ _ (ltb i (c .segments)) (main-wished (inForceAt c i) (cellIn state i) _ _)
 
-  pub ramp-flow-wished : (i : ℕ) → rampFlowAt road period state i ≤ rampWishAt road period state i
-  unfolding rampFlowAt
-  ramp-flow-wished i = ramp-flow-most _ _ _ _
-
-  -- the ramp gets its share of the supply, or all that wish
-  pub ramp-flow-share : (i : ℕ) →
-      min (rampWishAt road period state i) (supplyAt road period state i / (2 * lanesAt road period i)) ≤
-      rampFlowAt road period state i
-  unfolding rampFlowAt
-  ramp-flow-share i = ramp-flow-share-least _ _ _ _
-
-  -- ---- what a segment passes on: what leaves it by the mainline is exactly what enters the next
-  pub passed-on : (i : ℕ) → throughAt road period state i (leavingAt road period state i) ≡ mainFlowAt road period state (suc i)
-  unfolding throughAt leavingAt mainWishAt
-  passed-on i = leaving-through _ _ _ (main-flow-wished (suc i))
-
-  -- and nobody is lost or doubled in the split
-  pub split-at : GoodRoad road → (i y : ℕ) → i < segments road → offAt road period state i y + throughAt road period state i y ≡ y
-  unfolding offAt throughAt
-  split-at good i y h = split-whole _ y (good .segment i h .share)
-
-  -- ---- P ≤ E ≤ C, f + r ≤ C, y ≤ C
-  pub supply-entrance : (i : ℕ) → supplyAt road period state i ≤ entranceAt road period state i
-  unfolding supplyAt
-  supply-entrance i = supply-most-entrance _ _ _ _ _
-
-  pub entrance-capacity : (i : ℕ) → entranceAt road period state i ≤ capacityAt road period i
-  unfolding entranceAt
-  entrance-capacity i = entrance-most _ _ _
-
-  pub supply-room : (i : ℕ) → supplyAt road period state i ≤ jamAt road period i - cellAt road period state i .n
-  unfolding supplyAt
-  supply-room i = supply-most-room _ _ _ _ _
-
-  pub taken-in : (i : ℕ) → i < segments road → mainFlowAt road period state i + rampFlowAt road period state i ≤ capacityAt road period i
-  taken-in i h = omega (arith, inflow-exact i h, supply-entrance i, entrance-capacity i)
-
-  pub most-wished : (i : ℕ) → mostAt road period state i ≤ wishAt road period state i
-  unfolding mostAt
-  most-wished i = most-leaving-most _ _ _
-
-  pub leaving-at-most : (i : ℕ) → leavingAt road period state i ≤ mostAt road period state i
-  unfolding leavingAt
-  leaving-at-most i = leaving-most _ _ _
-
-  wish-capacity : (i : ℕ) → wishAt road period state i ≤ capacityAt road period i
-  unfolding wishAt
-  wish-capacity i = wish-most-capacity _ _ _ _
-
-  wish-parts : (i : ℕ) → wishAt road period state i ≤ cellAt road period state i .n
-  unfolding wishAt
-  wish-parts i = wish-most-parts _ _ _ _
-
-  pub let-out : (i : ℕ) → leavingAt road period state i ≤ capacityAt road period i
-  let-out i = omega (arith, leaving-at-most i, most-wished i, wish-capacity i)
-
-  pub let-out-parts : (i : ℕ) → leavingAt road period state i ≤ cellAt road period state i .n
-  let-out-parts i = omega (arith, leaving-at-most i, most-wished i, wish-parts i)
-
-  -- ---- after the step: at most the jam, and at most what was there where that was more
-  held : (n f r y j p : ℕ) → f + r ≤ j - n → n + f + r - y ≤ max n j
-  held n f r y j p h = omega arith
-
-  pub held-most : (i : ℕ) → i < segments road → nextCell road period state i .n ≤ max (cellAt road period state i .n) (jamAt road period i)
-  unfolding nextCell
-  held-most i h = held _ _ _ _ _ 0 (omega (arith, inflow-exact i h, supply-room i))
-
-  pub held-jam : (i : ℕ) →
-      i < segments road →
-      cellAt road period state i .n ≤ jamAt road period i →
-      nextCell road period state i .n ≤ jamAt road period i
-  held-jam i h l = omega (arith, held-most i h)
-
-  -- ---- the flows' bounds
-  pub off-most-at : (i : ℕ) → offAt road period state i (leavingAt road period state i) ≤ segmentOf road i .offramp
-  unfolding offAt mostAt
-  off-most-at i =
-      omega (arith, off-rises (segmentOf road i .share) _ _ (leaving-at-most i), most-leaving-off (segmentOf road i .share) (segmentOf road i .offramp) (wishAt road period state i))
-
-  ramp-wish-queue : (i : ℕ) → rampWishAt road period state i ≤ cellAt road period state i .q + rampOf period i .demand
-  unfolding rampWishAt
-  ramp-wish-queue i = ramp-wish-most-queue _ _ _ _
-
-  ramp-wish-ramp : (i : ℕ) → rampWishAt road period state i ≤ segmentOf road i .onramp
-  unfolding rampWishAt
-  ramp-wish-ramp i = ramp-wish-most-ramp _ _ _ _
-
-  pub ramp-flow-queue : (i : ℕ) → rampFlowAt road period state i ≤ cellAt road period state i .q + rampOf period i .demand
-  ramp-flow-queue i = omega (arith, ramp-flow-wished i, ramp-wish-queue i)
-
-  pub ramp-flow-ramp : (i : ℕ) → rampFlowAt road period state i ≤ segmentOf road i .onramp
-  ramp-flow-ramp i = omega (arith, ramp-flow-wished i, ramp-wish-ramp i)
-
-  pub origin-flow : mainFlowAt road period state zero ≤ state .origin + periodGlobals period .demand
+  pub origin-flow : mainFlowAt c state zero ≤ state .origin + c .demand
   unfolding mainWishAt
   origin-flow = main-flow-wished zero
 
-  -- ---- the state after the step, read by index
-  pub stepped-length : length (stepped road period state .cells) ≡ length (state .cells)
-  unfolding stepped
-  stepped-length = length-replaced _ (segments road) (state .cells)
+  -- what leaves a segment by the mainline is exactly what enters the next
+  pub passed-on : (i : ℕ) → through (splitOf (inForceAt c i) (cellIn state i)) (leavingAt c state i) ≡ mainFlowAt c state (suc i)
+  unfolding mainWishAt
+  passed-on i = goes-on (inForceAt c i) (cellIn state i) (mainFlowAt c state (suc i)) (main-flow-wished (suc i))
 
-  pub stepped-cell : segments road ≤ length (state .cells) → (i : ℕ) → i < segments road → cellAt road period (stepped road period state) i ≡ nextCell road period state i
+  -- and the rest by the off-ramp
+  pub gone-at : (i : ℕ) → GoodSplit (splitOf (inForceAt c i) (cellIn state i)) → off (splitOf (inForceAt c i) (cellIn state i)) (leavingAt c state i) + mainFlowAt c state (suc i) ≡ leavingAt c state i
+  gone-at i good = omega (arith, all-go (inForceAt c i) (cellIn state i) (mainFlowAt c state (suc i)) good, passed-on i)
+
+  -- after the step a segment holds at most its jam, and at most what was there where that was more
+  pub held-at : (i : ℕ) → nextCell c state i .n ≤ max (cellIn state i .n) (inForceAt c i .jam)
+  held-at i = held-most (inForceAt c i) (cellIn state i) _ _ _
+
+  pub ramp-queue-at : (i : ℕ) → flowAt c state i .ramp ≤ cellIn state i .q + inForceAt c i .demand
+  ramp-queue-at i = ramp-queue (inForceAt c i) (cellIn state i) _ _
+
+  -- ---- the state after the step, read by index
+  pub stepped-length : length (stepped c state .cells) ≡ length (state .cells)
   unfolding stepped
-  stepped-cell l i h = replaced-at (nextCell road period state) (segments road) i (state .cells) noCell h (omega arith)
+  stepped-length = length-replaced _ (c .segments) (state .cells)
+
+  pub stepped-cell : c .segments ≤ length (state .cells) → (i : ℕ) → i < c .segments → cellIn (stepped c state) i ≡ nextCell c state i
+  unfolding stepped
+  stepped-cell l i h = replaced-at (nextCell c state) (c .segments) i (state .cells) noCell h (omega arith)

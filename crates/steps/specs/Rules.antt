@@ -3,6 +3,7 @@ use Prim.Native.Nat.{ℕ, zero, suc, _+_, _-_, _*_, _/_, min, max}
 use mathlib.Core.Bool.{Bool}
 use lib.Dec.{leb}
 use Rattle.numbers.specs.Choice.{if_then_else_}
+use Rattle.steps.specs.declared.Split.{Split}
 
 -- the largest y up to b that passes the test, by search from the top
 unfoldable pub largest : (ℕ → Bool) → ℕ → ℕ
@@ -13,33 +14,29 @@ largest p (suc b) = if p (suc b) then suc b else largest p b
 unfoldable pub roundedUp : ℕ → ℕ → ℕ
 roundedUp a b = (a + (b - 1)) / b
 
--- J = KJ × N × L / 22, the jam, from the jam density; Q = KC × N × L / 22, from the density at capacity
-unfoldable pub partsAt : (density lanes length : ℕ) → ℕ
-partsAt k n l = k * n * l / 22
-
 -- D, wish to leave: the least of n, C and n × 22 × V / L rounded up
 unfoldable pub wishToLeave : (parts capacity speed length : ℕ) → ℕ
 wishToLeave n c v l = min n (min c (roundedUp (n * 22 * v) l))
 
--- off(y) = y × s / 1000
-unfoldable pub off : (share leaving : ℕ) → ℕ
-off s y = y * s / 1000
+-- off(y) = y × s / 1000, of what the split goes by
+unfoldable pub off : Split → (leaving : ℕ) → ℕ
+off s y = y * s .share / 1000
 
 -- through(y) = y − off(y)
-unfoldable pub through : (share leaving : ℕ) → ℕ
+unfoldable pub through : Split → (leaving : ℕ) → ℕ
 through s y = y - off s y
 
 -- Y0: the largest y up to D with off(y) at most F
-unfoldable pub mostLeaving : (share offramp wish : ℕ) → ℕ
+unfoldable pub mostLeaving : Split → (offramp wish : ℕ) → ℕ
 mostLeaving s f d = largest (λ y. leb (off s y) f) d
 
--- W, ramp wish: the least of q + ramp demand, R and the meter rate
-unfoldable pub rampWish : (queue demand onramp meter : ℕ) → ℕ
-rampWish q d r m = min (q + d) (min r m)
+-- W, ramp wish: the least of q + ramp demand, R and the meter rate, of which the limit is the lesser
+unfoldable pub rampWish : (queue demand limit : ℕ) → ℕ
+rampWish q d l = min (q + d) l
 
--- E, entrance capacity: C × (100 − A) / 100 behind a queue, else C
-unfoldable pub entrance : (capacity drop : ℕ) (queued : Bool) → ℕ
-entrance c a t = if t then c * (100 - a) / 100 else c
+-- E, entrance capacity: the lowered one behind a queue, else C
+unfoldable pub entrance : (capacity lowered : ℕ) (queued : Bool) → ℕ
+entrance c l t = if t then l else c
 
 -- P, supply: the least of E, J − n and C × (J − n) / (J − Q)
 unfoldable pub supply : (entrance capacity jam critical parts : ℕ) → ℕ
@@ -54,5 +51,5 @@ unfoldable pub mainFlow : (mainWish supply rampFlow : ℕ) → ℕ
 mainFlow m p r = min m (p - r)
 
 -- y, leaving: the largest y up to Y0 with through(y) at most f(i + 1)
-unfoldable pub leaving : (share most ahead : ℕ) → ℕ
+unfoldable pub leaving : Split → (most ahead : ℕ) → ℕ
 leaving s b f = largest (λ y. leb (through s y) f) b

@@ -1,16 +1,23 @@
-// The step rules: one step of the road, part by part.
-use sheets::Ramp;
-use sheets::RoadGlobals;
-use sheets::Segment;
+// The step rules: one step of the road under the conditions in force, part by part.
+use arithmetic::least;
+use arithmetic::less;
+use arithmetic::wide;
+use conditions::InForce;
+use conditions::demand_in;
+use conditions::exit_in;
+use conditions::in_force_at;
+use conditions::segments_in;
 ghost use mathlib.Core.Path.{_≡_};
-ghost use Prim.Native.Nat.{_-_, _≤_, _<_, min};
-ghost use Rattle.sheets.specs.Parts.{segmentOf, rampOf};
-ghost use Rattle.sheets.specs.Good.{GoodSegment, GoodRoad, GoodPeriod};
-ghost use Rattle.steps.specs.Rules.{partsAt, wishToLeave, off, through, mostLeaving, rampWish, entrance, supply, rampFlow, mainFlow, leaving};
-ghost use Rattle.steps.specs.Turn.{GoodGlobals, Movable, criticalOf, supplyOf, mergeOf, inflowOf, mostOf, sentOf, cellAfter, movedOf};
-ghost use Rattle.steps.specs.Step.{freshState, stepped, arrivedOf, leftOf, storedOf, segments};
-ghost use Rattle.steps.specs.Bounds.{Bounded};
-ghost use Rattle.steps.specs.Level.{holdsAtMost, levelBy, levelOf};
+ghost use Prim.Native.Nat.{_≤_, _<_};
+ghost use Rattle.conditions.specs.Conditions.{inForceAt};
+ghost use Rattle.conditions.specs.Good.{GoodPlace, GoodConditions};
+ghost use Rattle.conditions.specs.Row.{conditionsIn};
+ghost use Rattle.steps.specs.Rules.{wishToLeave, off, through, mostLeaving, rampWish, entrance, supply, rampFlow, mainFlow, leaving};
+ghost use Rattle.steps.specs.Place.{splitOf, mostOf, sentOf, supplyOf, inflowOf, movedOf};
+ghost use Rattle.steps.specs.Step.{freshState, stepped, arrivedOf, leftOf, storedOf};
+ghost use Rattle.steps.specs.Held.{Held, Bounded};
+ghost use Rattle.steps.specs.Split.{GoodSplit};
+ghost use Rattle.steps.specs.Passing.{Movable};
 
 // A segment's state: n parts in it and q in its on-ramp's queue; and of the last step the mainline flow f and the ramp flow r that
 // entered, off(y) that left by the off-ramp, and y that left in all.
@@ -30,14 +37,9 @@ pub struct State {
     pub exit: u32,
 }
 
-// The level letter.
-pub enum Level {
-    A,
-    B,
-    C,
-    D,
-    E,
-    F,
+// What the split of leaving parts goes by.
+pub struct Split {
+    pub share: u64,
 }
 
 // What enters at a node: the mainline flow f and the ramp flow r.
@@ -59,33 +61,6 @@ pub struct Stepped {
     pub left: u64,
 }
 
-fn wide(x: u32) -> u64
-    ensures { λ r. ⌜ (r ≡ x) × (r < 4294967296) ⌝ }
-{
-    x as u64
-}
-
-fn least(a: u64, b: u64) -> u64
-    ensures { λ r. ⌜ r ≡ min a b ⌝ }
-{
-    if a <= b { a } else { b }
-}
-
-// The difference, zero where it would be negative.
-fn less(a: u64, b: u64) -> u64
-    ensures { λ r. ⌜ r ≡ a - b ⌝ }
-{
-    if a <= b { 0 } else { a - b }
-}
-
-// J by the jam density, Q by the density at capacity.
-fn parts_at(density: u64, lanes: u64, length: u64) -> u64
-    requires { ⌜ (density ≤ 300) × (lanes ≤ 8) × (length ≤ 26400) ⌝ }
-    ensures { λ r. ⌜ r ≡ partsAt density lanes length ⌝ }
-{
-    density * lanes * length / 22
-}
-
 // D. The quotient is worked out only where it is the least.
 fn wish_to_leave(n: u64, capacity: u64, speed: u64, length: u64) -> u64
     requires { ⌜ (n ≤ 2880000) × (capacity ≤ 20000) × (speed ≤ 85) × (1 ≤ length) × (length ≤ 26400) ⌝ }
@@ -99,49 +74,44 @@ fn wish_to_leave(n: u64, capacity: u64, speed: u64, length: u64) -> u64
     (moving + (length - 1)) / length
 }
 
-fn off_of(share: u64, y: u64) -> u64
-    requires { ⌜ (share ≤ 1000) × (y ≤ 20000) ⌝ }
-    ensures { λ r. ⌜ r ≡ off share y ⌝ }
+fn off_of(split: Split, y: u64) -> u64
+    requires { ⌜ GoodSplit split × (y ≤ 20000) ⌝ }
+    ensures { λ r. ⌜ r ≡ off split y ⌝ }
 {
-    y * share / 1000
+    y * split.share / 1000
 }
 
-fn through_of(share: u64, y: u64) -> u64
-    requires { ⌜ (share ≤ 1000) × (y ≤ 20000) ⌝ }
-    ensures { λ r. ⌜ r ≡ through share y ⌝ }
+fn through_of(split: Split, y: u64) -> u64
+    requires { ⌜ GoodSplit split × (y ≤ 20000) ⌝ }
+    ensures { λ r. ⌜ r ≡ through split y ⌝ }
 {
-    y - off_of(share, y)
+    y - off_of(split, y)
 }
 
 // Y0: all who wish to leave, or as many as the off-ramp's capacity lets.
-fn most_leaving(share: u64, offramp: u64, wish: u64) -> u64
-    requires { ⌜ (share ≤ 1000) × (offramp ≤ 10000) × (wish ≤ 20000) ⌝ }
-    ensures { λ r. ⌜ r ≡ mostLeaving share offramp wish ⌝ }
+fn most_leaving(split: Split, offramp: u64, wish: u64) -> u64
+    requires { ⌜ GoodSplit split × (offramp ≤ 10000) × (wish ≤ 20000) ⌝ }
+    ensures { λ r. ⌜ r ≡ mostLeaving split offramp wish ⌝ }
 {
-    if off_of(share, wish) <= offramp {
+    if off_of(split, wish) <= offramp {
         return wish;
     }
-    ((offramp + 1) * 1000 - 1) / share
+    ((offramp + 1) * 1000 - 1) / split.share
 }
 
 // W.
-fn ramp_wish(queue: u64, demand: u64, onramp: u64, meter: u64) -> u64
+fn ramp_wish(queue: u64, demand: u64, limit: u64) -> u64
     requires { ⌜ (queue ≤ 57600000) × (demand ≤ 10000) ⌝ }
-    ensures { λ r. ⌜ r ≡ rampWish queue demand onramp meter ⌝ }
+    ensures { λ r. ⌜ r ≡ rampWish queue demand limit ⌝ }
 {
-    least(queue + demand, least(onramp, meter))
+    least(queue + demand, limit)
 }
 
 // E.
-fn entrance_of(capacity: u64, drop: u64, queued: bool) -> u64
-    requires { ⌜ (capacity ≤ 20000) × (drop ≤ 50) ⌝ }
-    ensures { λ r. ⌜ r ≡ entrance capacity drop queued ⌝ }
+fn entrance_of(capacity: u64, lowered: u64, queued: bool) -> u64
+    ensures { λ r. ⌜ r ≡ entrance capacity lowered queued ⌝ }
 {
-    if queued {
-        capacity * (100 - drop) / 100
-    } else {
-        capacity
-    }
+    if queued { lowered } else { capacity }
 }
 
 // P. The quotient is worked out only where it is below E.
@@ -181,90 +151,88 @@ fn main_flow(m: u64, p: u64, r: u64) -> u64
 }
 
 // y: all who may leave, or as many as the node ahead takes of those who go on. Without an off-ramp all go on, and no quotient is needed.
-fn leaving_of(share: u64, most: u64, ahead: u64) -> u64
-    requires { ⌜ (share ≤ 1000) × (most ≤ 20000) ⌝ }
-    ensures { λ r. ⌜ r ≡ leaving share most ahead ⌝ }
+fn leaving_of(split: Split, most: u64, ahead: u64) -> u64
+    requires { ⌜ GoodSplit split × (most ≤ 20000) ⌝ }
+    ensures { λ r. ⌜ r ≡ leaving split most ahead ⌝ }
 {
-    if through_of(share, most) <= ahead {
+    if through_of(split, most) <= ahead {
         return most;
     }
-    if share == 0 {
+    if split.share == 0 {
         return ahead;
     }
-    1000 * ahead / (1000 - share)
+    1000 * ahead / (1000 - split.share)
 }
 
-// Q of a segment.
-fn critical_of(g: RoadGlobals, seg: Segment) -> u64
-    requires { ⌜ GoodGlobals g × GoodSegment seg ⌝ }
-    ensures { λ r. ⌜ r ≡ criticalOf g seg ⌝ }
+// What the split at a segment goes by.
+fn split_of(here: InForce, cell: Cell) -> Split
+    ensures { λ r. ⌜ r ≡ splitOf here cell ⌝ }
 {
-    parts_at(g.critical, seg.lanes, seg.length)
+    Split { share: here.share }
 }
 
-// P of a segment that holds n.
-fn supply_in(g: RoadGlobals, seg: Segment, n: u64, queued: bool) -> u64
-    requires { ⌜ GoodGlobals g × GoodSegment seg ⌝ }
-    ensures { λ r. ⌜ r ≡ supplyOf g seg n queued ⌝ }
+// P of a segment.
+fn supply_in(here: InForce, cell: Cell, queued: bool) -> u64
+    requires { ⌜ GoodPlace here ⌝ }
+    ensures { λ r. ⌜ r ≡ supplyOf here cell queued ⌝ }
 {
-    let entrance = entrance_of(seg.capacity, g.drop, queued);
-    let jam = parts_at(g.jam, seg.lanes, seg.length);
-    supply_of(entrance, seg.capacity, jam, critical_of(g, seg), n)
+    let entrance = entrance_of(here.capacity, here.lowered, queued);
+    supply_of(
+        entrance,
+        here.capacity,
+        here.jam,
+        here.critical,
+        wide(cell.n),
+    )
 }
 
-// f and r at the entrance of a segment.
-fn merge(seg: Segment, p: u64, m: u64, w: u64) -> Flow
-    requires { ⌜ GoodSegment seg ⌝ }
-    ensures { λ r. ⌜ r ≡ mergeOf seg p m w ⌝ }
+// f and r at the entrance of a segment, by the mainline wish and whether a queue stands before the node.
+fn inflow(here: InForce, cell: Cell, wish: u64, queued: bool) -> Flow
+    requires { ⌜ GoodPlace here × Held 5760 cell ⌝ }
+    ensures { λ r. ⌜ r ≡ inflowOf here cell wish queued ⌝ }
 {
-    let ramp = ramp_flow(p, seg.lanes, m, w);
+    let p = supply_in(here, cell, queued);
+    let w = ramp_wish(wide(cell.q), here.demand, here.limit);
+    let ramp = ramp_flow(p, here.lanes, wish, w);
     Flow {
-        main: main_flow(m, p, ramp),
+        main: main_flow(wish, p, ramp),
         ramp,
     }
 }
 
-// The same from the segment's cell and ramp, by the mainline wish and whether a queue stands before the node.
-fn inflow(g: RoadGlobals, seg: Segment, ramp: Ramp, cell: Cell, wish: u64, queued: bool) -> Flow
-    requires { ⌜ GoodGlobals g × GoodSegment seg × (ramp .demand ≤ 10000) × (cell .q ≤ 57600000) ⌝ }
-    ensures { λ r. ⌜ r ≡ inflowOf g seg ramp cell wish queued ⌝ }
+// Y0 of a segment.
+fn most_of(here: InForce, cell: Cell) -> u64
+    requires { ⌜ GoodPlace here × Held 5760 cell ⌝ }
+    ensures { λ r. ⌜ r ≡ mostOf here cell ⌝ }
 {
-    let w = ramp_wish(wide(cell.q), ramp.demand, seg.onramp, ramp.meter);
-    merge(seg, supply_in(g, seg, wide(cell.n), queued), wish, w)
+    let wish = wish_to_leave(wide(cell.n), here.capacity, here.speed, here.length);
+    most_leaving(split_of(here, cell), here.offramp, wish)
 }
 
-// Y0 of a segment that holds n.
-fn most_of(seg: Segment, n: u64) -> u64
-    requires { ⌜ GoodSegment seg × (n ≤ 2880000) ⌝ }
-    ensures { λ r. ⌜ r ≡ mostOf seg n ⌝ }
+// What a segment sends on.
+fn sent_on(here: InForce, cell: Cell) -> Sent
+    requires { ⌜ GoodPlace here × Held 5760 cell ⌝ }
+    ensures { λ r. ⌜ r ≡ sentOf here cell ⌝ }
 {
-    let wish = wish_to_leave(n, seg.capacity, seg.speed, seg.length);
-    most_leaving(seg.share, seg.offramp, wish)
-}
-
-// What a segment that holds n sends on.
-fn sent_on(g: RoadGlobals, seg: Segment, n: u64) -> Sent
-    requires { ⌜ GoodGlobals g × GoodSegment seg × (n ≤ 2880000) ⌝ }
-    ensures { λ r. ⌜ r ≡ sentOf g seg n ⌝ }
-{
-    let most = most_of(seg, n);
+    let most = most_of(here, cell);
     Sent {
         most,
-        wish: through_of(seg.share, most),
-        queued: critical_of(g, seg) < n,
+        wish: through_of(split_of(here, cell), most),
+        queued: here.critical < wide(cell.n),
     }
 }
 
 // A segment's cell after the step, by the flows in, the most that may leave and the flow ahead.
-fn moved(seg: Segment, ramp: Ramp, cell: Cell, flow: Flow, most: u64, ahead: u64) -> Cell
-    requires { ⌜ Movable seg ramp cell flow most ⌝ }
-    ensures { λ r. ⌜ r ≡ movedOf seg ramp cell flow most ahead ⌝ }
+fn moved(here: InForce, cell: Cell, flow: Flow, most: u64, ahead: u64) -> Cell
+    requires { ⌜ Movable here cell flow most ⌝ }
+    ensures { λ r. ⌜ r ≡ movedOf here cell flow ahead ⌝ }
 {
-    let y = leaving_of(seg.share, most, ahead);
-    let off = off_of(seg.share, y);
+    let split = split_of(here, cell);
+    let y = leaving_of(split, most, ahead);
+    let off = off_of(split, y);
     Cell {
         n: (wide(cell.n) + flow.main + flow.ramp - y) as u32,
-        q: (wide(cell.q) + ramp.demand - flow.ramp) as u32,
+        q: (wide(cell.q) + here.demand - flow.ramp) as u32,
         main: flow.main as u32,
         ramp: flow.ramp as u32,
         off: off as u32,
@@ -273,97 +241,57 @@ fn moved(seg: Segment, ramp: Ramp, cell: Cell, flow: Flow, most: u64, ahead: u64
 }
 
 // f and r at node i, of the cell behind it.
-fn flow_at(
-    road: &[u32; 452],
-    period: &[u32; 452],
-    i: usize,
-    g: RoadGlobals,
-    cell: Cell,
-    wish: u64,
-    queued: bool,
-) -> Flow
-    requires { ⌜ (i < 64) × GoodGlobals g × GoodSegment (segmentOf (now road) i) × (rampOf (now period) i .demand ≤ 10000) × (cell .q ≤ 57600000) ⌝ }
-    ensures { λ r. ⌜ r ≡ inflowOf g (segmentOf (now (road .entry)) i) (rampOf (now (period .entry)) i) cell wish queued ⌝ }
+fn flow_at(row: &[u32; 707], i: usize, cell: Cell, wish: u64, queued: bool) -> Flow
+    requires { ⌜ GoodConditions (conditionsIn (now row)) × (i < conditionsIn (now row) .segments) × Held 5760 cell ⌝ }
+    ensures { λ r. ⌜ r ≡ inflowOf (inForceAt (conditionsIn (now (row .entry))) i) cell wish queued ⌝ }
 {
-    inflow(
-        g,
-        sheets::segment_at(road, i),
-        sheets::ramp_at(period, i),
-        cell,
-        wish,
-        queued,
-    )
+    inflow(in_force_at(row, i), cell, wish, queued)
 }
 
 // What segment i with its cell sends on.
-fn sent_at(road: &[u32; 452], i: usize, g: RoadGlobals, cell: Cell) -> Sent
-    requires { ⌜ (i < 64) × GoodGlobals g × GoodSegment (segmentOf (now road) i) × (cell .n ≤ 2880000) ⌝ }
-    ensures { λ r. ⌜ r ≡ sentOf g (segmentOf (now (road .entry)) i) (cell .n) ⌝ }
+fn sent_at(row: &[u32; 707], i: usize, cell: Cell) -> Sent
+    requires { ⌜ GoodConditions (conditionsIn (now row)) × (i < conditionsIn (now row) .segments) × Held 5760 cell ⌝ }
+    ensures { λ r. ⌜ r ≡ sentOf (inForceAt (conditionsIn (now (row .entry))) i) cell ⌝ }
 {
-    sent_on(g, sheets::segment_at(road, i), wide(cell.n))
+    sent_on(in_force_at(row, i), cell)
 }
 
 // The cell of segment i after the step.
-fn moved_at(
-    road: &[u32; 452],
-    period: &[u32; 452],
-    i: usize,
-    cell: Cell,
-    flow: Flow,
-    most: u64,
-    ahead: u64,
-) -> Cell
-    requires { ⌜ (i < 64) × Movable (segmentOf (now road) i) (rampOf (now period) i) cell flow most ⌝ }
-    ensures { λ r. ⌜ r ≡ movedOf (segmentOf (now (road .entry)) i) (rampOf (now (period .entry)) i) cell flow most ahead ⌝ }
+fn moved_at(row: &[u32; 707], i: usize, cell: Cell, flow: Flow, most: u64, ahead: u64) -> Cell
+    requires { ⌜ (i < 64) × (i < conditionsIn (now row) .segments) × Movable (inForceAt (conditionsIn (now row)) i) cell flow most ⌝ }
+    ensures { λ r. ⌜ r ≡ movedOf (inForceAt (conditionsIn (now (row .entry))) i) cell flow ahead ⌝ }
 {
-    moved(
-        sheets::segment_at(road, i),
-        sheets::ramp_at(period, i),
-        cell,
-        flow,
-        most,
-        ahead,
-    )
+    moved(in_force_at(row, i), cell, flow, most, ahead)
 }
 
-// One step under a period sheet: one pass over the segments, which carries the flow into the segment at hand. The last segment,
-// before the exit, comes after the loop.
-pub fn step(road: &[u32; 452], period: &[u32; 452], state: State) -> Stepped
-    requires { ⌜ GoodRoad (now road) × GoodPeriod (now road) (now period) × Bounded (now road) 5760 state ⌝ }
-    ensures { λ r. ⌜ r ≡ record { state = stepped (now (road .entry)) (now (period .entry)) state; left = leftOf (now (road .entry)) (stepped (now (road .entry)) (now (period .entry)) state) } ⌝ }
+// One step under the conditions in a row: one pass over the segments, which carries the flow into the segment at hand. The last
+// segment, before the exit, comes after the loop.
+pub fn step(row: &[u32; 707], state: State) -> Stepped
+    requires { ⌜ GoodConditions (conditionsIn (now row)) × Bounded (conditionsIn (now row) .segments) 5760 state ⌝ }
+    ensures { λ r. ⌜ r ≡ record { state = stepped (conditionsIn (now (row .entry))) state; left = leftOf (conditionsIn (now (row .entry)) .segments) (stepped (conditionsIn (now (row .entry))) state) } ⌝ }
 {
-    let g = sheets::globals_of_road(road);
-    let sheet = sheets::globals_of_period(period);
-    let last = (g.segments - 1) as usize;
+    let last = segments_in(row) - 1;
     let origin = wide(state.origin);
-    let wish = origin + sheet.demand;
+    let wish = origin + demand_in(row);
     let mut cells = state.cells;
-    let mut flow = flow_at(road, period, 0, g, state.cells[0], wish, 0 < origin);
+    let mut flow = flow_at(row, 0, state.cells[0], wish, 0 < origin);
     let waiting = wish - flow.main;
     let mut left: u64 = 0;
     let mut i: usize = 0;
     while i < last {
         let cell = state.cells[i];
-        let sent = sent_at(road, i, g, cell);
-        let ahead = flow_at(
-            road,
-            period,
-            i + 1,
-            g,
-            state.cells[i + 1],
-            sent.wish,
-            sent.queued,
-        );
-        let after = moved_at(road, period, i, cell, flow, sent.most, ahead.main);
+        let sent = sent_at(row, i, cell);
+        let ahead = flow_at(row, i + 1, state.cells[i + 1], sent.wish, sent.queued);
+        let after = moved_at(row, i, cell, flow, sent.most, ahead.main);
         left += wide(after.off);
         cells[i] = after;
         flow = ahead;
         i += 1;
     }
     let cell = state.cells[i];
-    let sent = sent_at(road, i, g, cell);
-    let exit = least(sent.wish, sheet.exit);
-    let after = moved_at(road, period, i, cell, flow, sent.most, exit);
+    let sent = sent_at(row, i, cell);
+    let exit = least(sent.wish, exit_in(row));
+    let after = moved_at(row, i, cell, flow, sent.most, exit);
     left += wide(after.off);
     cells[i] = after;
     let next = State {
@@ -378,27 +306,25 @@ pub fn step(road: &[u32; 452], period: &[u32; 452], state: State) -> Stepped
 }
 
 // Arrived in a step: the mainline demand and all ramp demands.
-pub fn arrived(road: &[u32; 452], period: &[u32; 452]) -> u64
-    requires { ⌜ GoodRoad (now road) × GoodPeriod (now road) (now period) ⌝ }
-    ensures { λ r. ⌜ r ≡ arrivedOf (now (road .entry)) (now (period .entry)) ⌝ }
+pub fn arrived(row: &[u32; 707]) -> u64
+    requires { ⌜ GoodConditions (conditionsIn (now row)) ⌝ }
+    ensures { λ r. ⌜ r ≡ arrivedOf (conditionsIn (now (row .entry))) ⌝ }
 {
-    let ns = sheets::globals_of_road(road).segments as usize;
-    let sheet = sheets::globals_of_period(period);
+    let ns = segments_in(row);
     let mut sum: u64 = 0;
     let mut i: usize = 0;
     while i < ns {
-        sum += sheets::ramp_at(period, i).demand;
+        sum += in_force_at(row, i).demand;
         i += 1;
     }
-    sheet.demand + sum
+    demand_in(row) + sum
 }
 
-// Stored: all n and q, and o.
-pub fn stored(road: &[u32; 452], state: State) -> u64
-    requires { ⌜ segments (now road) ≤ 64 ⌝ }
-    ensures { λ r. ⌜ r ≡ storedOf (now (road .entry)) state ⌝ }
+// Stored in the segments, their queues and before them: all n and q, and o.
+pub fn stored(ns: usize, state: State) -> u64
+    requires { ⌜ ns ≤ 64 ⌝ }
+    ensures { λ r. ⌜ r ≡ storedOf ns state ⌝ }
 {
-    let ns = sheets::globals_of_road(road).segments as usize;
     let mut sum: u64 = 0;
     let mut i: usize = 0;
     while i < ns {
@@ -427,41 +353,4 @@ pub fn fresh() -> State
         origin: 0,
         exit: 0,
     }
-}
-
-// Whether 22 × n is at most the limit × the area, by a quotient, since the product might not fit.
-fn holds_at_most(limit: u64, n: u32, area: u64) -> bool
-    requires { ⌜ (1 ≤ limit) × (limit ≤ 45) ⌝ }
-    ensures { λ r. ⌜ r ≡ holdsAtMost limit n area ⌝ }
-{
-    let need = (22 * wide(n) + (limit - 1)) / limit;
-    need <= area
-}
-
-fn level_by(n: u32, area: u64) -> Level
-    ensures { λ r. ⌜ r ≡ levelBy n area ⌝ }
-{
-    if holds_at_most(11, n, area) {
-        return Level::A;
-    }
-    if holds_at_most(18, n, area) {
-        return Level::B;
-    }
-    if holds_at_most(26, n, area) {
-        return Level::C;
-    }
-    if holds_at_most(35, n, area) {
-        return Level::D;
-    }
-    if holds_at_most(45, n, area) {
-        return Level::E;
-    }
-    Level::F
-}
-
-// The level letter of a segment that holds n parts.
-pub fn level_of(n: u32, length: u32, lanes: u32) -> Level
-    ensures { λ r. ⌜ r ≡ levelOf n length lanes ⌝ }
-{
-    level_by(n, wide(length) * wide(lanes))
 }

@@ -1,12 +1,14 @@
 // Steps the roads on standard input, each from a fresh state, and prints the state and the flows after each step.
 // A record: a count (2 bytes, low first), the number of steps, and so many bytes: a road sheet and a period sheet.
+use arithmetic::less;
+use letters::Level;
 use steps::Cell;
-use steps::Level;
 use steps::State;
-ghost use mathlib.Core.Path.{_≡_};
-ghost use Prim.Native.Nat.{_-_, _<_, _≤_};
+ghost use Prim.Native.Nat.{_<_, _≤_};
 ghost use Rattle.sheets.specs.Good.{GoodRoad, GoodPeriod};
-ghost use Rattle.steps.specs.Step.{segments};
+ghost use Rattle.conditions.specs.Conditions.{segments};
+ghost use Rattle.conditions.specs.Good.{GoodConditions};
+ghost use Rattle.conditions.specs.Row.{conditionsIn};
 
 fn say(label: &[u8], number: u64) {
     io::write_all(1, label);
@@ -44,7 +46,7 @@ fn say_cells(road: &[u32; 452], state: State)
     while i < ns {
         let cell = state.cells[i];
         let k = 4 + 7 * i;
-        let level = steps::level_of(cell.n, road[k], road[k + 1]);
+        let level = letters::level_of(cell.n, road[k], road[k + 1]);
         say_cell(i as u64 + 1, cell, level);
         i += 1;
     }
@@ -59,24 +61,18 @@ fn say_sums(t: u64, origin: u32, arrived: u64, left: u64, partsteps: u64) {
     io::write_all(1, b"\n");
 }
 
-// The difference, zero where it would be negative.
-fn less(a: u64, b: u64) -> u64
-    ensures { λ r. ⌜ r ≡ a - b ⌝ }
+// Makes so many steps under the conditions in a row, and prints each.
+fn run(row: &[u32; 707], road: &[u32; 452], count: u64)
+    requires { ⌜ GoodConditions (conditionsIn (now row)) × (segments (now road) ≤ 64) × (count < 256) ⌝ }
 {
-    if a <= b { 0 } else { a - b }
-}
-
-fn run(road: &[u32; 452], period: &[u32; 452], count: u64)
-    requires { ⌜ GoodRoad (now road) × GoodPeriod (now road) (now period) × (count < 256) ⌝ }
-{
-    let each = steps::arrived(road, period);
+    let each = steps::arrived(row);
     let mut state = steps::fresh();
     let mut arrived: u64 = 0;
     let mut left: u64 = 0;
     let mut partsteps: u64 = 0;
     let mut t: u64 = 0;
     while t < count {
-        let done = steps::step(road, period, state);
+        let done = steps::step(row, state);
         let next = done.state;
         state = next;
         arrived += each;
@@ -86,6 +82,14 @@ fn run(road: &[u32; 452], period: &[u32; 452], count: u64)
         say_sums(t, next.origin, arrived, left, partsteps);
         say_cells(road, next);
     }
+}
+
+fn run_under(road: &[u32; 452], period: &[u32; 452], count: u64)
+    requires { ⌜ GoodRoad (now road) × GoodPeriod (now road) (now period) × (count < 256) ⌝ }
+{
+    let mut row = [0u32; 707];
+    conditions::fill(road, period, &mut row);
+    run(&row, road, count);
 }
 
 // Reads the road and its period, and steps.
@@ -100,7 +104,7 @@ fn play(bytes: &[u8], count: u64)
         let period = next.row;
         if sheets::is_road(road) {
             if sheets::is_period(road, period) {
-                run(&road, &period, count);
+                run_under(&road, &period, count);
             }
         }
     }

@@ -6,10 +6,10 @@ use mathlib.Core.List.{List}
 use native.Mathlib.Numerals.{add-one}
 use native.Mathlib.Omega.{arith}
 use lib.ListN.{length, set}
-use Rattle.sheets.specs.Allowed.{roadAllowed}
-use Rattle.steps.specs.Step.{segments, replaced}
+use Rattle.conditions.specs.Conditions.{segments}
+use Rattle.steps.specs.Step.{replaced}
 use Rattle.steps.specs.Sums.{length-replaced}
-use Rattle.steps.specs.Level.{letterByte}
+use Rattle.letters.specs.Level.{letterByte}
 use Rattle.facility.specs.declared.Facility.{Facility}
 use Rattle.facility.specs.declared.SegmentReport.{SegmentReport}
 use Rattle.facility.specs.Sound.{sound}
@@ -18,7 +18,8 @@ use Rattle.facility.specs.Answers.{reportSays}
 use Rattle.facility.specs.Ledger.{Report, Book, answer}
 use Rattle.facility.proofs.Cases.{report-segment, totals-sound}
 use Rattle.facility.proofs.Trail.{Fine}
-use Rattle.facility.proofs.View.{view, sound-view, reports}
+use Rattle.facility.specs.View.{view}
+use Rattle.facility.proofs.OneCall.{sound-view, reports}
 use Rattle.study.specs.declared.Line.{Line}
 use Rattle.study.specs.Forecast.{lineOf, linesBy, listed}
 use Rattle.study.specs.Shown.{lineAt, shown}
@@ -46,10 +47,10 @@ lines-same : (g h : ℕ → Line) (k : ℕ) → ((i : ℕ) → g i ≡ h i) → 
 lines-same g h k e = ap (λ (x : ℕ → Line). linesBy x k) (fun-ext e)
 
 -- the facility that shows a book shows the book's listing
-pub shows : (road : List ℕ) (ok : roadAllowed road ≡ true) (b : Book) → Fine road b → shown (view road b) ≡ listed road b
+pub shows : (b : Book) → Fine b → shown (view b) ≡ listed b
 unfolding shown listed lineAt
-shows road ok b f =
+shows b f =
     let lines =
-    lines-same (λ i. lineOf (reportSays (reportOf (view road b) (i + 1)))) (λ i. lineOf (answer road b (Report (i + 1)))) (segments road)
-    (λ i. ap lineOf (reports road ok b (i + 1) f)) in
-    rw (totals-sound (view road b) (sound-view road ok b f), lines)
+    lines-same (λ i. lineOf (reportSays (reportOf (view b) (i + 1)))) (λ i. lineOf (answer b (Report (i + 1)))) (segments (b .road))
+    (λ i. ap lineOf (reports b (i + 1) f)) in
+    rw (totals-sound (view b) (sound-view b f), lines)

@@ -24,28 +24,28 @@ unfolding refusedAt
 after-lines (Taken used) at on h = h (at + used)
 after-lines (Refused number offset) at on h = refl
 after-lines Ran at on h = h at
-after-lines (Reported cell level) at on h = h at
+after-lines (Reported figures level) at on h = h at
 after-lines (Summed arrived left stored partsteps) at on h = h at
 
-listed-lines : (road : List ℕ) (b : Book) → length (listed road b .lines) ≡ 64
+listed-lines : (b : Book) → length (listed b .lines) ≡ 64
 unfolding listed
-listed-lines road b = lines-length _ _
+listed-lines b = lines-length _ _
 
 either-lines : (t : Bool) (x y : Listing) → length (x .lines) ≡ 64 → length (y .lines) ≡ 64 → length ((if t then x else y) .lines) ≡ 64
 either-lines true x y p q = p
 either-lines false x y p q = q
 
-periods-lines : (most : ℕ) (road : List ℕ) (b : Book) (bytes : List ℕ) (at : ℕ) → length (periods most road b bytes at .lines) ≡ 64
+periods-lines : (most : ℕ) (b : Book) (bytes : List ℕ) (at : ℕ) → length (periods most b bytes at .lines) ≡ 64
 unfolding periods
-periods-lines zero road b bytes at = listed-lines road b
-periods-lines (suc most) road b bytes at =
+periods-lines zero b bytes at = listed-lines b
+periods-lines (suc most) b bytes at =
     either-lines (ltb at (length bytes)) _ _
-    (after-lines (answer road b (Take (drop at bytes))) at _ (periods-lines most road (wholePeriod road b (drop at bytes)) bytes))
-    (listed-lines road b)
+    (after-lines (answer b (Take (drop at bytes))) at _ (periods-lines most (wholePeriod b (drop at bytes)) bytes))
+    (listed-lines b)
 
 road-lines : (bytes : List ℕ) (r : Rows) → length (onRoad bytes r .lines) ≡ 64
 unfolding refusedAt
-road-lines bytes (ReadRow row used) = periods-lines 97 (padded row) opened bytes used
+road-lines bytes (ReadRow row used) = periods-lines 97 (opened (padded row)) bytes used
 road-lines bytes (RefusedAt number offset) = refl
 
 pub forecast-lines : (bytes : List ℕ) → length (forecastOf bytes .lines) ≡ 64

@@ -9,19 +9,19 @@ use lib.Seq.{take-all}
 use lib.Dec.{ltb, eqb}
 use borrow.Author.Tests.{lt-ltb, le-ltb, eq-eqb, ne-eqb}
 use Rattle.numbers.specs.Choice.{if_then_else_}
-use Rattle.sheets.specs.Allowed.{roadAllowed}
 use Rattle.sheets.specs.Good.{good-road, read-road-allowed}
 use Rattle.sheets.specs.Read.{Rows, ReadRow, RefusedAt, readRoad, readPeriod, padded}
 use Rattle.sheets.specs.Refusals.{road-refusal}
-use Rattle.steps.specs.Step.{segments}
+use Rattle.conditions.specs.Conditions.{segments}
 use Rattle.facility.specs.declared.Facility.{Facility}
 use Rattle.facility.specs.declared.Reply.{Reply}
 use Rattle.facility.specs.Sound.{sound}
 use Rattle.facility.specs.Calls.{laidBy, layOf, takeOf, runOf}
-use Rattle.facility.specs.Ledger.{outside, Take, Run, Answer, Refused, Taken, Ran, Reported, Summed, more, Book, opened, read, withRow, running, full, answer, after}
+use Rattle.facility.specs.Ledger.{outside, Take, Run, Answer, Refused, Taken, Ran, Reported, Summed, withSteps, Book, opened, read, withRow, running, full, answer, after}
+use Rattle.facility.specs.View.{view}
 use Rattle.facility.specs.Answers.{takeSays}
 use Rattle.facility.proofs.Trail.{Fine, fine-opened, fine-after}
-use Rattle.facility.proofs.View.{view, view-opened, sound-view, takes, runs}
+use Rattle.facility.proofs.OneCall.{view-opened, sound-view, takes, runs}
 use Rattle.study.specs.Forecast.{listed, refusedAt, afterSheet, whole, wholePeriod, periods, onRoad, forecastOf}
 use Rattle.study.specs.Shown.{shown}
 use Rattle.study.proofs.Within.{RowWithin, road-within, period-within}
@@ -33,7 +33,7 @@ abbrev AnswerWithin : ℕ → Answer → Type 0
 AnswerWithin m (Taken used) = used ≤ m
 AnswerWithin m (Refused number offset) = offset ≤ m
 AnswerWithin m Ran = 0 ≤ m
-AnswerWithin m (Reported cell level) = 0 ≤ m
+AnswerWithin m (Reported figures level) = 0 ≤ m
 AnswerWithin m (Summed arrived left stored partsteps) = 0 ≤ m
 
 read-within : (m : ℕ) (r : Rows) → RowWithin m r → AnswerWithin m (read r)
@@ -45,8 +45,8 @@ take-within-by m r true y h = omega arith
 take-within-by m r false true h = omega arith
 take-within-by m r false false h = read-within m r h
 
-take-within : (road : List ℕ) (b : Book) (s : List ℕ) → AnswerWithin (length s) (answer road b (Take s))
-take-within road b s = take-within-by (length s) (readPeriod road s) (running b) (full b) (period-within road s)
+take-within : (b : Book) (s : List ℕ) → AnswerWithin (length s) (answer b (Take s))
+take-within b s = take-within-by (length s) (readPeriod (b .road) s) (running b) (full b) (period-within (b .road) s)
 
 -- a sheet that is taken is counted, with no step made under it
 Begun : Book → Book → Type 0
@@ -63,8 +63,8 @@ begun-by b r used true y e = absurd (let z : _≡_ {A = ℕ} 0 1 = cc in omega a
 begun-by b r used false true e = absurd (let z : _≡_ {A = ℕ} 0 1 = cc in omega arith)
 begun-by b r used false false e = begun-row b r used e
 
-begun : (road : List ℕ) (b : Book) (s : List ℕ) (used : ℕ) → answer road b (Take s) ≡ Taken used → Begun b (after road b (Take s))
-begun road b s used e = begun-by b (readPeriod road s) used (running b) (full b) e
+begun : (b : Book) (s : List ℕ) (used : ℕ) → answer b (Take s) ≡ Taken used → Begun b (after b (Take s))
+begun b s used e = begun-by b (readPeriod (b .road) s) used (running b) (full b) e
 
 -- a run takes no sheet
 same-taken-by : (b c : Book) (x y z : Bool) → c .taken ≡ b .taken → (if x then b else if y then b else if z then b else c) .taken ≡ b .taken
@@ -73,17 +73,15 @@ same-taken-by b c false true z h = refl
 same-taken-by b c false false true h = refl
 same-taken-by b c false false false h = h
 
-same-taken : (road : List ℕ) (b : Book) (k : ℕ) → after road b (Run k) .taken ≡ b .taken
-same-taken road b k =
-    same-taken-by b (record { sheet = b .sheet; taken = b .taken; made = b .made + k; trail = more road (b .sheet) k (b .trail) })
-    (outside 1 60 k) (eqb (b .taken) 0) (ltb (60 - b .made) k) refl
+same-taken : (b : Book) (k : ℕ) → after b (Run k) .taken ≡ b .taken
+same-taken b k = same-taken-by b (withSteps k b) (outside 1 60 k) (eqb (b .taken) 0) (ltb (60 - b .made) k) refl
 
 -- "runs every period whole": right after a sheet is taken, a run of the period's steps is never refused
-pub run-whole : (road : List ℕ) (b : Book) (s : List ℕ) (used : ℕ) → answer road b (Take s) ≡ Taken used → answer road (after road b (Take s)) (Run whole) ≡ Ran
+pub run-whole : (b : Book) (s : List ℕ) (used : ℕ) → answer b (Take s) ≡ Taken used → answer (after b (Take s)) (Run whole) ≡ Ran
 unfolding Begun
-run-whole road b s used e =
-    let next = after road b (Take s) in
-    let g = begun road b s used e in
+run-whole b s used e =
+    let next = after b (Take s) in
+    let g = begun b s used e in
     rw (ne-eqb (next .taken) 0 (λ z. omega (arith, g .0)), le-ltb (60 - next .made) whole (omega (arith, g .1)))
 
 -- and after it no step is left, so that no taking of a study is refused by 12
@@ -94,44 +92,38 @@ and-false false = refl
 run-out-by : (b c : Book) (x y : Bool) → x ≡ false → y ≡ false → 60 ≤ c .made → running (if x then b else if y then b else c) ≡ false
 run-out-by b c x y p q h = rw (p, q, le-ltb (c .made) 60 h) (and-false (ltb 0 (c .taken)))
 
-run-out : (road : List ℕ) (b : Book) (s : List ℕ) (used : ℕ) → answer road b (Take s) ≡ Taken used → running (wholePeriod road b s) ≡ false
+run-out : (b : Book) (s : List ℕ) (used : ℕ) → answer b (Take s) ≡ Taken used → running (wholePeriod b s) ≡ false
 unfolding Begun
-run-out road b s used e =
-    let next = after road b (Take s) in
-    let g = begun road b s used e in
-    run-out-by next (record { sheet = next .sheet; taken = next .taken; made = next .made + whole; trail = more road (next .sheet) whole (next .trail) })
-    (eqb (next .taken) 0) (ltb (60 - next .made) whole)
+run-out b s used e =
+    let next = after b (Take s) in
+    let g = begun b s used e in
+    run-out-by next (withSteps whole next) (eqb (next .taken) 0) (ltb (60 - next .made) whole)
     (ne-eqb (next .taken) 0 (λ z. omega (arith, g .0))) (le-ltb (60 - next .made) whole (omega (arith, g .1))) (omega arith)
 
 -- ---- a study on its way, at a place of its bytes
 pub record Playing (bytes : List ℕ) (f : Facility) (at : ℕ) : Type 0 where
-  pub road : List ℕ
-  pub ok : roadAllowed road ≡ true
   pub book : Book
-  pub fine : Fine road book
+  pub fine : Fine book
+  pub view : f ≡ view book
   pub idle : running book ≡ false
-  pub view : f ≡ view road book
   pub most : ℕ
   pub count : most + book .taken ≡ 97
   pub within : at ≤ length bytes
-  pub rest : forecastOf bytes ≡ periods most road book bytes at
+  pub rest : forecastOf bytes ≡ periods most book bytes at
 
 laid-by : (bytes : List ℕ) (r : Rows) → readRoad bytes ≡ r → (laid : Reply) → laid ≡ laidBy r → laid .refusal ≡ 0 → Playing bytes (laid .facility) (laid .used)
 unfolding forecastOf
 laid-by bytes (ReadRow row used) e laid is z =
-    let ok = read-road-allowed bytes row used e in
     let end : laid .used ≡ used = ap (λ (q : Reply). q .used) is in
     record {
-      road = padded row;
-      ok = ok;
-      book = opened;
-      fine = fine-opened (padded row) (good-road (padded row) ok);
-      idle = refl;
+      book = opened (padded row);
+      fine = fine-opened (padded row) (read-road-allowed bytes row used e);
       view = ap (λ (q : Reply). q .facility) is ∙ view-opened (padded row);
+      idle = refl;
       most = 97;
       count = refl;
       within = omega (arith, rw e at (road-within bytes));
-      rest = ap (onRoad bytes) e ∙ ap (periods 97 (padded row) opened bytes) (sym end);
+      rest = ap (onRoad bytes) e ∙ ap (periods 97 (opened (padded row)) bytes) (sym end);
     }
 laid-by bytes (RefusedAt number offset) e laid is z = absurd (omega (arith, road-refusal bytes number offset e, ap (λ (q : Reply). q .refusal) is))
 
@@ -153,41 +145,44 @@ pub rest-of : (bytes : List ℕ) (at : ℕ) → at ≤ length bytes → take (le
 rest-of bytes at h = take-all (length bytes - at) (drop at bytes) (rw length-drop (omega arith))
 
 -- a sheet more is looked at while the bytes go on, and none where they end
-sheet-by : (most : ℕ) (road : List ℕ) (b : Book) (bytes : List ℕ) (at : ℕ) → 0 < most → at < length bytes
-    → periods most road b bytes at ≡ afterSheet (answer road b (Take (drop at bytes))) at (periods (most - 1) road (wholePeriod road b (drop at bytes)) bytes)
+sheet-by : (most : ℕ) (b : Book) (bytes : List ℕ) (at : ℕ) → 0 < most → at < length bytes
+    → periods most b bytes at ≡ afterSheet (answer b (Take (drop at bytes))) at (periods (most - 1) (wholePeriod b (drop at bytes)) bytes)
 unfolding periods
-sheet-by zero road b bytes at p h = absurd (omega arith)
-sheet-by (suc most) road b bytes at p h =
+sheet-by zero b bytes at p h = absurd (omega arith)
+sheet-by (suc most) b bytes at p h =
     let less : most ≡ suc most - 1 = omega arith in
-    let next = wholePeriod road b (drop at bytes) in
-    let looks : periods (suc most) road b bytes at ≡ afterSheet (answer road b (Take (drop at bytes))) at (periods most road next bytes) = rw (lt-ltb at (length bytes) h) in
-    looks ∙ ap (λ (m : ℕ). afterSheet (answer road b (Take (drop at bytes))) at (periods m road next bytes)) less
+    let next = wholePeriod b (drop at bytes) in
+    let looks : periods (suc most) b bytes at ≡ afterSheet (answer b (Take (drop at bytes))) at (periods most next bytes) = rw (lt-ltb at (length bytes) h) in
+    looks ∙ ap (λ (m : ℕ). afterSheet (answer b (Take (drop at bytes))) at (periods m next bytes)) less
 
-end-by : (most : ℕ) (road : List ℕ) (b : Book) (bytes : List ℕ) (at : ℕ) → length bytes ≤ at → periods most road b bytes at ≡ listed road b
+end-by : (most : ℕ) (b : Book) (bytes : List ℕ) (at : ℕ) → length bytes ≤ at → periods most b bytes at ≡ listed b
 unfolding periods
-end-by zero road b bytes at h = refl
-end-by (suc most) road b bytes at h = rw (le-ltb at (length bytes) h)
+end-by zero b bytes at h = refl
+end-by (suc most) b bytes at h = rw (le-ltb at (length bytes) h)
 
 module _ (bytes : List ℕ) (f : Facility) (at : ℕ) (p : Playing bytes f at) where
   pub playing-sound : (sound f ≡ true) × (segments (f .road) ≤ 64)
-  playing-sound = rw (p .view) (sound-view (p .road) (p .ok) (p .book) (p .fine), good-road (p .road) (p .ok) .segments .1)
+  playing-sound = rw (p .view) (sound-view (p .book) (p .fine), good-road (p .book .road) (p .fine .road) .segments .1)
 
   -- the end of the file
   pub ends : length bytes ≤ at → shown f ≡ forecastOf bytes
-  ends h = rw (p .view) (shows (p .road) (p .ok) (p .book) (p .fine) ∙ sym (end-by (p .most) (p .road) (p .book) bytes at h) ∙ sym (p .rest))
+  ends h = rw (p .view) (shows (p .book) (p .fine) ∙ sym (end-by (p .most) (p .book) bytes at h) ∙ sym (p .rest))
 
   -- a sheet that the bytes from the place on give
   module _ (inside : at < length bytes) (r : Reply) (gave : r ≡ takeOf f (drop at bytes)) where
-    said : takeSays r ≡ answer (p .road) (p .book) (Take (drop at bytes))
-    said = ap takeSays (gave ∙ ap (λ (g : Facility). takeOf g (drop at bytes)) (p .view)) ∙ takes (p .road) (p .ok) (p .book) (drop at bytes) (p .fine) .0
+    took : r ≡ takeOf (view (p .book)) (drop at bytes)
+    took = gave ∙ ap (λ (g : Facility). takeOf g (drop at bytes)) (p .view)
 
-    told : forecastOf bytes ≡ afterSheet (takeSays r) at (periods (p .most - 1) (p .road) (wholePeriod (p .road) (p .book) (drop at bytes)) bytes)
+    said : takeSays r ≡ answer (p .book) (Take (drop at bytes))
+    said = ap takeSays took ∙ takes (p .book) (drop at bytes) (p .fine) .0
+
+    told : forecastOf bytes ≡ afterSheet (takeSays r) at (periods (p .most - 1) (wholePeriod (p .book) (drop at bytes)) bytes)
     told =
-        p .rest ∙ sheet-by (p .most) (p .road) (p .book) bytes at (omega (arith, p .count, p .fine .few)) inside
-        ∙ ap (λ (a : Answer). afterSheet a at (periods (p .most - 1) (p .road) (wholePeriod (p .road) (p .book) (drop at bytes)) bytes)) (sym said)
+        p .rest ∙ sheet-by (p .most) (p .book) bytes at (omega (arith, p .count, p .fine .few)) inside
+        ∙ ap (λ (a : Answer). afterSheet a at (periods (p .most - 1) (wholePeriod (p .book) (drop at bytes)) bytes)) (sym said)
 
     said-within : AnswerWithin (length bytes - at) (takeSays r)
-    said-within = rw (said, ← (length-drop at bytes)) (take-within (p .road) (p .book) (drop at bytes))
+    said-within = rw (said, ← (length-drop at bytes)) (take-within (p .book) (drop at bytes))
 
     module _ (n : r .refusal ≡ 0 → ⊥) where
       -- a refused sheet: its place
@@ -198,7 +193,7 @@ module _ (bytes : List ℕ) (f : Facility) (at : ℕ) (p : Playing bytes f at) w
       refuses = sym (rw (ne-eqb (r .refusal) 0 n) at told)
 
     module _ (z : r .refusal ≡ 0) where
-      taken : answer (p .road) (p .book) (Take (drop at bytes)) ≡ Taken (r .used)
+      taken : answer (p .book) (Take (drop at bytes)) ≡ Taken (r .used)
       taken = sym (rw (eq-eqb (r .refusal) 0 z) at said)
 
       pub next-within : at + r .used ≤ length bytes
@@ -206,39 +201,32 @@ module _ (bytes : List ℕ) (f : Facility) (at : ℕ) (p : Playing bytes f at) w
 
       -- the period run whole
       module _ (ran : Reply) (runs-it : ran ≡ runOf (r .facility) whole) where
-        view-next : ran .facility ≡ view (p .road) (wholePeriod (p .road) (p .book) (drop at bytes))
+        view-next : ran .facility ≡ view (wholePeriod (p .book) (drop at bytes))
         view-next =
-            let b = after (p .road) (p .book) (Take (drop at bytes)) in
-            let begins : r .facility ≡ view (p .road) b =
-            ap (λ (q : Reply). q .facility) (gave ∙ ap (λ (g : Facility). takeOf g (drop at bytes)) (p .view)) ∙ takes (p .road) (p .ok) (p .book) (drop at bytes) (p .fine) .1 in
+            let b = after (p .book) (Take (drop at bytes)) in
+            let begins : r .facility ≡ view b = ap (λ (q : Reply). q .facility) took ∙ takes (p .book) (drop at bytes) (p .fine) .1 in
             ap (λ (q : Reply). q .facility) (runs-it ∙ ap (λ (g : Facility). runOf g whole) begins)
-            ∙ runs (p .road) (p .ok) b whole (fine-after (p .road) (good-road (p .road) (p .ok)) (p .book) (Take (drop at bytes)) (p .fine)) .1
+            ∙ runs b whole (fine-after (p .book) (Take (drop at bytes)) (p .fine)) .1
 
-        taken-next : wholePeriod (p .road) (p .book) (drop at bytes) .taken ≡ p .book .taken + 1
+        taken-next : wholePeriod (p .book) (drop at bytes) .taken ≡ p .book .taken + 1
         unfolding Begun
-        taken-next =
-            same-taken (p .road) (after (p .road) (p .book) (Take (drop at bytes))) whole
-            ∙ begun (p .road) (p .book) (drop at bytes) (r .used) taken .0
+        taken-next = same-taken (after (p .book) (Take (drop at bytes))) whole ∙ begun (p .book) (drop at bytes) (r .used) taken .0
 
         pub one-taken : ran .facility .taken ≡ f .taken + 1
         one-taken =
             ap (λ (g : Facility). g .taken) view-next ∙ taken-next ∙ ap (λ (g : Facility). g .taken + 1) (sym (p .view))
 
         pub goes-on : Playing bytes (ran .facility) (at + r .used)
-        goes-on =
-            let good = good-road (p .road) (p .ok) in
-            record {
-              road = p .road;
-              ok = p .ok;
-              book = wholePeriod (p .road) (p .book) (drop at bytes);
-              fine = fine-after (p .road) good (after (p .road) (p .book) (Take (drop at bytes))) (Run whole) (fine-after (p .road) good (p .book) (Take (drop at bytes)) (p .fine));
-              idle = run-out (p .road) (p .book) (drop at bytes) (r .used) taken;
-              view = view-next;
-              most = p .most - 1;
-              count = omega (arith, p .count, p .fine .few, taken-next);
-              within = next-within;
-              rest = rw (eq-eqb (r .refusal) 0 z) at told;
-            }
+        goes-on = record {
+          book = wholePeriod (p .book) (drop at bytes);
+          fine = fine-after (after (p .book) (Take (drop at bytes))) (Run whole) (fine-after (p .book) (Take (drop at bytes)) (p .fine));
+          view = view-next;
+          idle = run-out (p .book) (drop at bytes) (r .used) taken;
+          most = p .most - 1;
+          count = omega (arith, p .count, p .fine .few, taken-next);
+          within = next-within;
+          rest = rw (eq-eqb (r .refusal) 0 z) at told;
+        }
 
   pub few-taken : f .taken ≤ 96
   few-taken = rw (p .view) (p .fine .few)

@@ -5,8 +5,9 @@ use lib.ListN.{length, drop, replicate}
 use lib.Dec.{ltb}
 use Rattle.numbers.specs.Choice.{if_then_else_}
 use Rattle.sheets.specs.Read.{Rows, ReadRow, RefusedAt, readRoad, padded}
-use Rattle.steps.specs.Step.{segments, replaced, storedOf}
-use Rattle.steps.specs.Level.{letterByte}
+use Rattle.conditions.specs.Conditions.{segments}
+use Rattle.steps.specs.Step.{replaced, storedOf}
+use Rattle.letters.specs.Level.{letterByte}
 use Rattle.facility.specs.Ledger.{Take, Run, Report, Answer, Refused, Taken, Ran, Reported, Summed, stateAfter, arrivedIn, leftIn, partstepsIn, Book, opened, answer, after}
 use Rattle.study.specs.declared.Line.{Line}
 use Rattle.study.specs.declared.Listing.{Listing}
@@ -17,7 +18,7 @@ noLine = record { n = 0; q = 0; letter = 0 }
 
 -- a line of the listing: n, q and the letter, as a segment report has them
 abbrev pub lineOf : Answer → Line
-lineOf (Reported cell level) = record { n = cell .n; q = cell .q; letter = letterByte level }
+lineOf (Reported figures level) = record { n = figures .n; q = figures .q; letter = letterByte level }
 lineOf (Refused number offset) = noLine
 lineOf (Taken used) = noLine
 lineOf Ran = noLine
@@ -28,17 +29,17 @@ unfoldable pub linesBy : (ℕ → Line) → ℕ → List Line
 linesBy line segments = replaced line segments (replicate 64 noLine)
 
 -- "arrived, left, stored, part-steps, origin (o), then segment, n, q, letter"
-unfoldable pub listed : List ℕ → Book → Listing
-listed road b = record {
+unfoldable pub listed : Book → Listing
+listed b = record {
   refusal = 0;
   place = 0;
-  segments = segments road;
-  arrived = arrivedIn road (b .trail);
-  left = leftIn road (b .trail);
-  stored = storedOf road (stateAfter (b .trail));
-  partsteps = partstepsIn road (b .trail);
+  segments = segments (b .road);
+  arrived = arrivedIn (b .trail);
+  left = leftIn (b .trail);
+  stored = storedOf (segments (b .road)) (stateAfter (b .trail));
+  partsteps = partstepsIn (b .trail);
   origin = stateAfter (b .trail) .origin;
-  lines = linesBy (λ i. lineOf (answer road b (Report (i + 1)))) (segments road);
+  lines = linesBy (λ i. lineOf (answer b (Report (i + 1)))) (segments (b .road));
 }
 
 -- "a refused study prints only refused, the number and the place in the file"
@@ -60,7 +61,7 @@ abbrev pub afterSheet : Answer → ℕ → (ℕ → Listing) → Listing
 afterSheet (Taken used) at on = on (at + used)
 afterSheet (Refused number offset) at on = refusedAt number (at + offset)
 afterSheet Ran at on = on at
-afterSheet (Reported cell level) at on = on at
+afterSheet (Reported figures level) at on = on at
 afterSheet (Summed arrived left stored partsteps) at on = on at
 
 -- "60 steps to a 15-minute period"
@@ -68,20 +69,20 @@ abbrev pub whole : ℕ
 whole = 60
 
 -- the book after a sheet is taken and its period run whole
-abbrev pub wholePeriod : List ℕ → Book → List ℕ → Book
-wholePeriod road b sheet = after road (after road b (Take sheet)) (Run whole)
+abbrev pub wholePeriod : Book → List ℕ → Book
+wholePeriod b sheet = after (after b (Take sheet)) (Run whole)
 
 -- the period sheets from a place on, "to the end of the file". At most so many are looked at
-unfoldable pub periods : ℕ → List ℕ → Book → List ℕ → ℕ → Listing
-periods zero road b bytes at = listed road b
-periods (suc most) road b bytes at =
+unfoldable pub periods : ℕ → Book → List ℕ → ℕ → Listing
+periods zero b bytes at = listed b
+periods (suc most) b bytes at =
     if ltb at (length bytes) then
-    afterSheet (answer road b (Take (drop at bytes))) at (periods most road (wholePeriod road b (drop at bytes)) bytes)
-    else listed road b
+    afterSheet (answer b (Take (drop at bytes))) at (periods most (wholePeriod b (drop at bytes)) bytes)
+    else listed b
 
 -- "the period part starts wherever the road part ended". The 97th sheet is always refused, by 13, so that no more are looked at
 abbrev pub onRoad : List ℕ → Rows → Listing
-onRoad bytes (ReadRow row used) = periods 97 (padded row) opened bytes used
+onRoad bytes (ReadRow row used) = periods 97 (opened (padded row)) bytes used
 onRoad bytes (RefusedAt number offset) = refusedAt number offset
 
 -- the forecast of a study

@@ -1,6 +1,6 @@
 -- What a facility shows by its totals and its segment reports, as the listing has it.
 use Prim.Native.Nat.{ℕ, _+_}
-use Rattle.steps.specs.Step.{segments}
+use Rattle.conditions.specs.Conditions.{segments}
 use Rattle.facility.specs.declared.Facility.{Facility}
 use Rattle.facility.specs.Calls.{reportOf, totalsOf}
 use Rattle.facility.specs.Answers.{reportSays}

@@ -8,8 +8,12 @@ use Rattle.numbers.specs.Field.{inRange, readField}
 use Rattle.sheets.specs.Layout.{roadRange, periodRange, rangeOf, countOf}
 use Rattle.sheets.specs.Parts.{roadGlobals, segmentOf, periodGlobals, rampOf}
 use Rattle.sheets.specs.Read.{Rows, ReadRow, RefusedAt, onto, andThen, fields, readRow, roadFrom, readRoad, readPeriod, padded}
-use Rattle.steps.specs.Rules.{largest, roundedUp, partsAt, wishToLeave, off, through, mostLeaving, rampWish, entrance, supply, rampFlow, mainFlow, leaving}
-use Rattle.steps.specs.Step.{cellIn, lanesAt, capacityAt, jamAt, criticalAt, offAt, throughAt, wishAt, mostAt, mainWishAt, rampWishAt, queuedAt, entranceAt, supplyAt, rampFlowAt, mainFlowAt, leavingAt, nextCell, replaced, stepped, sumTo, arrivedOf, leftOf}
+use Rattle.conditions.specs.Values.{valuesTo}
+use Rattle.conditions.specs.Conditions.{partsAt, loweredBy, inForce, demandUnder, exitUnder, rampUnder, conditionsOf}
+use Rattle.steps.specs.declared.Split.{Split as SplitBy}
+use Rattle.steps.specs.Rules.{largest, roundedUp, wishToLeave, off, through, mostLeaving, rampWish, entrance, supply, rampFlow, mainFlow, leaving}
+use Rattle.steps.specs.Place.{splitOf, wishOf, mostOf, onwardOf, queuedOf, rampWishOf, entranceOf, supplyOf, inflowOf, leavingOf, movedOf}
+use Rattle.steps.specs.Step.{cellIn, mainWishAt, queuedAt, mainFlowAt, replaced, stepped, sumTo, arrivedOf, leftOf}
 use Rattle.facility.specs.Ledger.{Take, Run, stateAfter, arrivedIn, leftIn, partstepsIn, Book, opened, bookAfter}
 
 -- what a road of one segment has after so many steps: n, o, left and part-steps
@@ -32,25 +36,29 @@ pub data Row : Type 0 where
   -- a study's bytes after so many steps under its first period
   Study : (bytes : List ℕ) (steps : ℕ) → Steps → Row
 
-abbrev stepsOn : List ℕ → Book → Steps
-stepsOn road b = record {
+abbrev stepsOn : Book → Steps
+stepsOn b = record {
   n = cellIn (stateAfter (b .trail)) 0 .n;
   o = stateAfter (b .trail) .origin;
-  left = leftIn road (b .trail);
-  partsteps = partstepsIn road (b .trail);
+  left = leftIn (b .trail);
+  partsteps = partstepsIn (b .trail);
 }
 
 abbrev stepsAfter : Rows → List ℕ → ℕ → Steps
-stepsAfter (ReadRow row used) bytes k = stepsOn (padded row) (bookAfter (padded row) opened (Take (drop used bytes) ∷ Run k ∷ []))
-stepsAfter (RefusedAt number offset) bytes k = stepsOn [] opened
+stepsAfter (ReadRow row used) bytes k = stepsOn (bookAfter (opened (padded row)) (Take (drop used bytes) ∷ Run k ∷ []))
+stepsAfter (RefusedAt number offset) bytes k = stepsOn (opened [])
+
+-- a split by the share s
+abbrev by : ℕ → SplitBy
+by s = record { share = s }
 
 -- the row is what the definitions say
 abbrev pub Holds : Row → Type 0
 Holds (Number bytes r) = readNumber bytes 0 ≡ r
 Holds (Road bytes number offset) = readRoad bytes ≡ RefusedAt number offset
 Holds (Merge p n m w r f) = (rampFlow p n m w ≡ r) × (mainFlow m p (rampFlow p n m w) ≡ f)
-Holds (Split s f d ahead y offY) = (leaving s (mostLeaving s f d) ahead ≡ y) × (off s (leaving s (mostLeaving s f d) ahead) ≡ offY)
-Holds (Most s f d y0) = mostLeaving s f d ≡ y0
+Holds (Split s f d ahead y offY) = (leaving (by s) (mostLeaving (by s) f d) ahead ≡ y) × (off (by s) (leaving (by s) (mostLeaving (by s) f d) ahead) ≡ offY)
+Holds (Most s f d y0) = mostLeaving (by s) f d ≡ y0
 Holds (Study bytes k x) = stepsAfter (readRoad bytes) bytes k ≡ x
 
 abbrev pub Every : List Row → Type 0
@@ -79,5 +87,5 @@ table =
 
 -- THE STATEMENT: every row holds
 pub every-row : Every table
-unfolding readNumber groups last more placed inRange readField roadRange periodRange rangeOf countOf roadGlobals segmentOf periodGlobals rampOf onto andThen fields readRow roadFrom readRoad readPeriod largest roundedUp partsAt wishToLeave off through mostLeaving rampWish entrance supply rampFlow mainFlow leaving lanesAt capacityAt jamAt criticalAt offAt throughAt wishAt mostAt mainWishAt rampWishAt queuedAt entranceAt supplyAt rampFlowAt mainFlowAt leavingAt nextCell replaced stepped sumTo arrivedOf leftOf arrivedIn leftIn partstepsIn
+unfolding readNumber groups last more placed inRange readField roadRange periodRange rangeOf countOf roadGlobals segmentOf periodGlobals rampOf onto andThen fields readRow roadFrom readRoad readPeriod largest roundedUp partsAt wishToLeave off through mostLeaving rampWish entrance supply rampFlow mainFlow leaving valuesTo loweredBy inForce demandUnder exitUnder rampUnder conditionsOf splitOf wishOf mostOf onwardOf queuedOf rampWishOf entranceOf supplyOf inflowOf leavingOf movedOf mainWishAt queuedAt mainFlowAt replaced stepped sumTo arrivedOf leftOf arrivedIn leftIn partstepsIn
 every-row = (refl, (refl, (refl, (refl, (refl, ((refl, refl), ((refl, refl), ((refl, refl), ((refl, refl), (refl, (refl, tt)))))))))))

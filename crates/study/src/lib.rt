@@ -1,13 +1,13 @@
 // A whole study: from the bytes of its file to everything the listing shows.
 use facility::Facility;
-use steps::Level;
+use letters::Level;
 ghost use mathlib.Core.Path.{_≡_};
 ghost use mathlib.Core.Bool.{true};
 ghost use Prim.Native.Nat.{_+_, _≤_, _<_};
 ghost use mathlib.Core.List.{_++_};
 ghost use lib.ListN.{length, take, drop, set};
-ghost use Rattle.steps.specs.Step.{segments};
-ghost use Rattle.steps.specs.Level.{letterByte};
+ghost use Rattle.conditions.specs.Conditions.{segments};
+ghost use Rattle.letters.specs.Level.{letterByte};
 ghost use Rattle.facility.specs.Sound.{sound};
 ghost use Rattle.study.specs.Forecast.{linesBy, refusedAt, forecastOf};
 ghost use Rattle.study.specs.Export.{lineNumbers, numbersOf, exportAnswer, exportInto};

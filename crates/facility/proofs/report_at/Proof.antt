@@ -1,8 +1,12 @@
 -- The cell of the segment, and its letter.
-use mathlib.Core.Path.{ap}
+use mathlib.Core.Path.{_≡_, ap, sym, _∙_}
+use Rattle.sheets.specs.Parts.{segmentOf}
+use Rattle.letters.specs.Level.{levelOf}
 use native.Mathlib.Omega.{arith}
-use Rattle.steps.specs.Step.{cellIn, lanesAt}
-use Rattle.facility.specs.Calls.{reported, levelAt}
+use Rattle.steps.specs.Step.{cellIn}
+use Rattle.conditions.specs.Conditions.{inForceAt, inForce, conditionsOf}
+use Rattle.conditions.specs.Good.{in-force-at}
+use Rattle.facility.specs.Calls.{reported, levelAt, sheetBy}
 use borrow.Author.Needs.{needs}
 use Rattle.facility.proofs.report_at.Statement.{statement}
 use Rattle.facility.proofs.report_at.Tie as tie
@@ -30,10 +34,16 @@ level-of-requires : tie.Need-level-of-requires
 level-of-requires c κs = search needs
 
 returns : tie.Need-returns
-unfolding levelAt lanesAt
+unfolding levelAt inForce
 returns c =
-    let a = c .before .before .before .before .before .before .before .before .args in
-    ap (reported (cellIn (a .f .state) (a .i))) (rw (c .before .before .before .segment-at .ensures) at (c .level-of .ensures))
+    let start = c .before .before .before .before .before .before .before .before in
+    let a = start .args in
+    let here = in-force-at (a .f .road) (sheetBy (a .f .taken) (a .f .period)) (a .i) (start .pre .1) in
+    let n = cellIn (a .f .state) (a .i) .n in
+    let seg = segmentOf (a .f .road) (a .i) in
+    let c' = conditionsOf (a .f .road) (sheetBy (a .f .taken) (a .f .period)) in
+    let e : levelOf n (inForceAt c' (a .i) .length) (inForceAt c' (a .i) .lanes) ≡ levelOf n (seg .length) (seg .lanes) = rw here in
+    ap (reported (cellIn (a .f .state) (a .i))) (rw (c .before .before .before .segment-at .ensures) at (c .level-of .ensures) ∙ sym e)
 
 pub report-at-spec : {M : Type 1} → statement M
 report-at-spec =

@@ -1,19 +1,17 @@
--- The flows by the segment and the ramp that were read.
+-- The flows by what is in force there.
 use borrow.Author.Needs.{needs}
+use native.Mathlib.Omega.{arith}
 use Rattle.steps.proofs.flow_at.Statement.{statement}
 use Rattle.steps.proofs.flow_at.Tie as tie
 
-segment-at-requires : tie.Need-segment-at-requires
-segment-at-requires c κs = search needs
-
-ramp-at-requires : tie.Need-ramp-at-requires
-ramp-at-requires c κs = search needs
+in-force-at-requires : tie.Need-in-force-at-requires
+in-force-at-requires c κs = let p = c .pre in (omega (arith, p .1, p .0 .segments .1), p .1)
 
 inflow-requires : tie.Need-inflow-requires
-inflow-requires c κs = let p = c .before .before .pre in (p .1, rw (c .before .segment-at .ensures) (p .2), rw (c .ramp-at .ensures) (p .3), p .4)
+inflow-requires c κs = let p = c .before .pre in (rw (c .in-force-at .ensures) (p .0 .place _ (p .1)), p .2)
 
 returns : tie.Need-returns
-returns c = rw (c .inflow .ensures, c .before .ramp-at .ensures, c .before .before .segment-at .ensures)
+returns c = rw (c .inflow .ensures, c .before .in-force-at .ensures)
 
 pub flow-at-spec : {M : Type 1} → statement M
-flow-at-spec = tie.close (tie.spec segment-at-requires ramp-at-requires inflow-requires returns)
+flow-at-spec = tie.close (tie.spec in-force-at-requires inflow-requires returns)

@@ -1,19 +1,16 @@
--- The cell by the segment and the ramp that were read.
+-- The cell by what is in force there.
 use borrow.Author.Needs.{needs}
 use Rattle.steps.proofs.moved_at.Statement.{statement}
 use Rattle.steps.proofs.moved_at.Tie as tie
 
-segment-at-requires : tie.Need-segment-at-requires
-segment-at-requires c κs = search needs
-
-ramp-at-requires : tie.Need-ramp-at-requires
-ramp-at-requires c κs = search needs
+in-force-at-requires : tie.Need-in-force-at-requires
+in-force-at-requires c κs = let p = c .pre in (p .0, p .1)
 
 moved-requires : tie.Need-moved-requires
-moved-requires c κs = rw (c .before .segment-at .ensures, c .ramp-at .ensures) (c .before .before .pre .1)
+moved-requires c κs = rw (c .in-force-at .ensures) (c .before .pre .2)
 
 returns : tie.Need-returns
-returns c = rw (c .moved .ensures, c .before .ramp-at .ensures, c .before .before .segment-at .ensures)
+returns c = rw (c .moved .ensures, c .before .in-force-at .ensures)
 
 pub moved-at-spec : {M : Type 1} → statement M
-moved-at-spec = tie.close (tie.spec segment-at-requires ramp-at-requires moved-requires returns)
+moved-at-spec = tie.close (tie.spec in-force-at-requires moved-requires returns)

@@ -1,6 +1,6 @@
 -- The letter's byte, case by case.
 use borrow.Author.Needs.{needs}
-use Rattle.steps.specs.Level.{letterByte}
+use Rattle.letters.specs.Level.{letterByte}
 use Rattle.study.proofs.letter_byte.Statement.{statement}
 use Rattle.study.proofs.letter_byte.Tie as tie
 

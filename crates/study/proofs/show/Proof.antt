@@ -3,7 +3,7 @@ use mathlib.Core.Path.{refl, ap, _∙_}
 use mathlib.Core.List.{List}
 use borrow.Author.Needs.{needs}
 use Rattle.sheets.specs.Parts.{roadGlobals}
-use Rattle.steps.specs.Step.{segments}
+use Rattle.conditions.specs.Conditions.{segments}
 use Rattle.facility.specs.declared.Sums.{Sums}
 use Rattle.facility.specs.Calls.{totalsOf}
 use Rattle.study.specs.declared.Line.{Line}

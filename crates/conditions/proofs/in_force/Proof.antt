@@ -1,0 +1,26 @@
+-- The numbers of the road and the sheet, J, Q and C lowered.
+use borrow.Author.Needs.{needs}
+use Rattle.conditions.specs.Conditions.{inForce}
+use Rattle.conditions.proofs.in_force.Statement.{statement}
+use Rattle.conditions.proofs.in_force.Tie as tie
+
+lowered-by-requires : tie.Need-lowered-by-requires
+lowered-by-requires c κs = search needs
+
+parts-at-requires : tie.Need-parts-at-requires
+parts-at-requires c κs = search needs
+
+parts-at-requires-2 : tie.Need-parts-at-requires-2
+parts-at-requires-2 c κs = search needs
+
+least-requires : tie.Need-least-requires
+least-requires c κs = search needs
+
+returns : tie.Need-returns
+unfolding inForce
+returns c = cc
+
+pub in-force-spec : {M : Type 1} → statement M
+in-force-spec =
+    tie.close
+    (tie.spec lowered-by-requires parts-at-requires parts-at-requires-2 least-requires returns)

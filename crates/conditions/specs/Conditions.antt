@@ -1,0 +1,81 @@
+-- What is in force while a step is made: NS, the mainline demand, the exit capacity X, and at each segment the numbers that the step rules
+-- of document 01, "One step", go by there. Here alone a road and a period sheet become conditions.
+use Prim.Native.Nat.{ℕ, zero, suc, _-_, _*_, _/_, min}
+use mathlib.Core.List.{List}
+use lib.ListN.{getD}
+use Rattle.sheets.specs.declared.RoadGlobals.{RoadGlobals}
+use Rattle.sheets.specs.declared.Segment.{Segment}
+use Rattle.sheets.specs.declared.Ramp.{Ramp}
+use Rattle.sheets.specs.Parts.{roadGlobals, segmentOf, periodGlobals, rampOf}
+use Rattle.conditions.specs.declared.InForce.{InForce}
+use Rattle.conditions.specs.Values.{valuesTo}
+
+-- J = KJ × N × L / 22, the jam, from the jam density; Q = KC × N × L / 22, from the density at capacity
+unfoldable pub partsAt : (density lanes length : ℕ) → ℕ
+partsAt k n l = k * n * l / 22
+
+-- C behind a queue: C × (100 − A) / 100
+unfoldable pub loweredBy : (drop capacity : ℕ) → ℕ
+loweredBy a c = c * (100 - a) / 100
+
+-- what is in force at a segment, from the road's KJ, KC and A, the segment, and its ramp's entry in the sheet; the limit is the lesser of
+-- R and the meter rate
+unfoldable pub inForce : RoadGlobals → Segment → Ramp → InForce
+inForce g seg ramp = record {
+  length = seg .length;
+  speed = seg .speed;
+  lanes = seg .lanes;
+  capacity = seg .capacity;
+  lowered = loweredBy (g .drop) (seg .capacity);
+  jam = partsAt (g .jam) (seg .lanes) (seg .length);
+  critical = partsAt (g .critical) (seg .lanes) (seg .length);
+  limit = min (seg .onramp) (ramp .meter);
+  share = seg .share;
+  offramp = seg .offramp;
+  demand = ramp .demand;
+}
+
+-- the sheet in force: none before the first is taken
+pub data Sheet : Type 0 where
+  None : Sheet
+  Under : List ℕ → Sheet
+
+-- without a sheet nobody arrives, every ramp is held and the exit is shut
+unfoldable pub demandUnder : Sheet → ℕ
+demandUnder None = 0
+demandUnder (Under period) = periodGlobals period .demand
+
+unfoldable pub exitUnder : Sheet → ℕ
+exitUnder None = 0
+exitUnder (Under period) = periodGlobals period .exit
+
+unfoldable pub rampUnder : Sheet → ℕ → Ramp
+rampUnder None i = record { demand = 0; meter = 0 }
+rampUnder (Under period) i = rampOf period i
+
+pub record Conditions : Type 0 where
+  pub segments : ℕ
+  pub demand : ℕ
+  pub exit : ℕ
+  pub places : List InForce
+
+-- NS
+abbrev pub segments : List ℕ → ℕ
+segments road = roadGlobals road .segments
+
+-- the conditions of a road under the sheet in force
+unfoldable pub conditionsOf : List ℕ → Sheet → Conditions
+conditionsOf road sheet = record {
+  segments = segments road;
+  demand = demandUnder sheet;
+  exit = exitUnder sheet;
+  places = valuesTo (λ i. inForce (roadGlobals road) (segmentOf road i) (rampUnder sheet i)) (segments road);
+}
+
+-- past the last segment nothing is in force
+abbrev pub nothingInForce : InForce
+nothingInForce = record { length = 0; speed = 0; lanes = 0; capacity = 0; lowered = 0; jam = 0; critical = 0; limit = 0; share = 0; offramp = 0; demand = 0 }
+
+-- what is in force at segment i, counted from 0
+abbrev pub inForceAt : Conditions → ℕ → InForce
+inForceAt c i = getD (c .places) i nothingInForce

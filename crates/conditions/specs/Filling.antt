@@ -1,0 +1,90 @@
+-- The loop that fills a row with the conditions of a road under a sheet.
+use Prim.Native.Nat.{ℕ, zero, suc, _+_, _*_, _≤_, _<_}
+use mathlib.Core.Path.{_≡_, refl, _∙_}
+use mathlib.Core.List.{List}
+use mathlib.Core.Logic.{⊎-elim}
+use native.Mathlib.Nat.{eq-or-lt-of-le}
+use native.Mathlib.Omega.{arith}
+use lib.ListN.{length, getD, set, length-set}
+use lib.Seq.{getD-set-same, getD-set-other}
+use Rattle.sheets.specs.declared.RoadGlobals.{RoadGlobals}
+use Rattle.sheets.specs.declared.Segment.{Segment}
+use Rattle.sheets.specs.declared.Ramp.{Ramp}
+use Rattle.sheets.specs.Parts.{roadGlobals, segmentOf, periodGlobals, rampOf}
+use Rattle.sheets.specs.Good.{GoodRoad, GoodPeriod}
+use Rattle.conditions.specs.declared.InForce.{InForce}
+use Rattle.conditions.specs.Conditions.{inForce, segments, Under, demandUnder, exitUnder, rampUnder, conditionsOf}
+use Rattle.conditions.specs.Good.{GoodPlace, good-globals, good-place}
+use Rattle.conditions.specs.Values.{values-same}
+use Rattle.conditions.specs.Row.{inForceIn, conditionsIn, withInForce, with-in-force-at, with-in-force-before, with-in-force-earlier, with-in-force-length}
+
+-- what is in force at a segment of a road under a sheet
+abbrev pub inForceOf : (road period : List ℕ) → ℕ → InForce
+inForceOf road period i = inForce (roadGlobals road) (segmentOf road i) (rampOf period i)
+
+pub record Filling (road period : List ℕ) (g : RoadGlobals) (ns : ℕ) (row : List ℕ) (i : ℕ) : Type 0 where
+  pub within : i ≤ ns
+  pub all : ns ≡ segments road
+  pub globals-are : g ≡ roadGlobals road
+  pub long : length row ≡ 707
+  pub first : getD row 0 0 ≡ segments road
+  pub second : getD row 1 0 ≡ periodGlobals period .demand
+  pub third : getD row 2 0 ≡ periodGlobals period .exit
+  pub filled : (j : ℕ) → j < i → inForceIn row j ≡ inForceOf road period j
+
+pub filling-start : (road period : List ℕ) (g : RoadGlobals) (ns a b d : ℕ) (row : List ℕ) →
+    g ≡ roadGlobals road →
+    ns ≡ g .segments →
+    length row ≡ 707 →
+    a ≡ segments road →
+    b ≡ periodGlobals period .demand →
+    d ≡ periodGlobals period .exit →
+    Filling road period g ns (set (set (set row 0 a) 1 b) 2 d) 0
+filling-start road period g ns a b d row e n l p q r =
+    let l1 : length (set row 0 a) ≡ 707 = length-set row 0 a ∙ l in
+    let l2 : length (set (set row 0 a) 1 b) ≡ 707 = length-set (set row 0 a) 1 b ∙ l1 in
+    record {
+      within = omega arith;
+      all = rw (n, e);
+      globals-are = e;
+      long = length-set (set (set row 0 a) 1 b) 2 d ∙ l2;
+      first = getD-set-other (set (set row 0 a) 1 b) 2 0 d 0 (λ z. omega arith) ∙ getD-set-other (set row 0 a) 1 0 b 0 (λ z. omega arith) ∙ getD-set-same row 0 a 0 (omega arith) ∙ p;
+      second = getD-set-other (set (set row 0 a) 1 b) 2 1 d 0 (λ z. omega arith) ∙ getD-set-same (set row 0 a) 1 b 0 (omega arith) ∙ q;
+      third = getD-set-same (set (set row 0 a) 1 b) 2 d 0 (omega arith) ∙ r;
+      filled = λ j h. absurd (omega arith);
+    }
+
+module _ (road period : List ℕ) (g : RoadGlobals) (ns i : ℕ) (row : List ℕ) (at : Filling road period g ns row i) where
+  module _ (good : GoodRoad road) (sheet : GoodPeriod road period) (h : i < ns) (seg : Segment) (ramp : Ramp) (here : InForce) (s : seg ≡ segmentOf road i) (r : ramp ≡ rampOf period i) (e : here ≡ inForce g seg ramp) where
+    is-in-force : here ≡ inForceOf road period i
+    is-in-force = rw (e, s, r, at .globals-are)
+
+    pub filling-fits : (i < 64) × GoodPlace here
+    filling-fits =
+        let l : i < segments road = omega (arith, at .all) in
+        (omega (arith, at .all, good .segments .1), rw is-in-force (good-place _ _ _ (good-globals road good) (good .segment i l) (sheet .ramp i l .0)))
+
+    same-or-earlier : (j : ℕ) → j < i + 1 → inForceIn (withInForce row i here) j ≡ inForceOf road period j
+    same-or-earlier j l =
+        ⊎-elim
+        (λ (q : j ≡ i). rw q (with-in-force-at row i here (omega (arith, at .long, filling-fits .0)) ∙ is-in-force))
+        (λ (q : j < i). with-in-force-earlier row i j here q ∙ at .filled j q)
+        (eq-or-lt-of-le {n = j} {m = i} (omega arith))
+
+    pub filling-more : Filling road period g ns (withInForce row i here) (i + 1)
+    filling-more = record {
+      within = omega arith;
+      all = at .all;
+      globals-are = at .globals-are;
+      long = with-in-force-length row i here ∙ at .long;
+      first = with-in-force-before row i 0 here (omega arith) ∙ at .first;
+      second = with-in-force-before row i 1 here (omega arith) ∙ at .second;
+      third = with-in-force-before row i 2 here (omega arith) ∙ at .third;
+      filled = same-or-earlier;
+    }
+
+  pub filling-done : ns ≤ i → conditionsIn row ≡ conditionsOf road (Under period)
+  unfolding conditionsIn conditionsOf demandUnder exitUnder rampUnder
+  filling-done h =
+      let n : i ≡ segments road = omega (arith, at .within, at .all) in
+      rw (at .second, at .third, at .first, values-same (inForceIn row) (inForceOf road period) (segments road) (λ j l. at .filled j (omega arith)))

@@ -1,0 +1,5 @@
+pub mod Values
+pub mod Conditions
+pub mod Row
+pub mod Good
+pub mod Filling

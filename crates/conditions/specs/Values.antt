@@ -1,0 +1,23 @@
+-- Lists of a function's values at the indexes below a number.
+use Prim.Native.Nat.{ℕ, zero, suc, _<_}
+use mathlib.Core.List.{List, [], _∷_}
+use mathlib.Core.Path.{_≡_, refl}
+use native.Mathlib.Omega.{arith}
+use lib.ListN.{getD}
+
+unfoldable pub valuesTo : {A : Type 0} → (ℕ → A) → ℕ → List A
+valuesTo g zero = []
+valuesTo g (suc k) = g zero ∷ valuesTo (λ i. g (suc i)) k
+
+-- read by index
+pub values-at : {A : Type 0} (g : ℕ → A) (k i : ℕ) (d : A) → i < k → getD (valuesTo g k) i d ≡ g i
+unfolding valuesTo
+values-at g zero i d h = absurd (omega arith)
+values-at g (suc k) zero d h = refl
+values-at g (suc k) (suc i) d h = values-at (λ j. g (suc j)) k i d (omega arith)
+
+-- equal by the values
+pub values-same : {A : Type 0} (g h : ℕ → A) (k : ℕ) → ((i : ℕ) → i < k → g i ≡ h i) → valuesTo g k ≡ valuesTo h k
+unfolding valuesTo
+values-same g h zero e = refl
+values-same g h (suc k) e = rw (e zero (omega arith), values-same (λ i. g (suc i)) (λ i. h (suc i)) k (λ i l. e (suc i) (omega arith)))

@@ -1,0 +1,44 @@
+-- Document 01, "Level letter" (urban limits; a vehicle counts as one passenger car).
+use Prim.Native.Nat.{ℕ, _+_, _-_, _*_, _/_, _≤_}
+use mathlib.Core.Bool.{Bool}
+use mathlib.Core.Path.{_≡_}
+use native.Mathlib.Nat.{div-lt-iff-lt-mul}
+use native.Mathlib.Omega.{arith}
+use lib.Dec.{leb}
+use Rattle.numbers.specs.Choice.{if_then_else_}
+use Rattle.letters.specs.declared.Level.{Level}
+use Rattle.letters.specs.declared.Level.the-variants.{A, B, C, D, E, F}
+use Rattle.arithmetic.specs.Tests.{leb-iff}
+
+-- 22 × n is at most the limit × L × N, of the area L × N
+unfoldable pub holdsAtMost : (limit parts area : ℕ) → Bool
+holdsAtMost k n area = leb (22 * n) (k * area)
+
+-- A with 11, then B, C, D, E with 18, 26, 35, 45, else F
+unfoldable pub levelBy : (parts area : ℕ) → Level
+levelBy n area =
+    if holdsAtMost 11 n area then A
+    else if holdsAtMost 18 n area then B
+    else if holdsAtMost 26 n area then C
+    else if holdsAtMost 35 n area then D
+    else if holdsAtMost 45 n area then E
+    else F
+
+unfoldable pub levelOf : (parts length lanes : ℕ) → Level
+levelOf n l w = levelBy n (l * w)
+
+-- the letter, as its byte
+unfoldable pub letterByte : Level → ℕ
+letterByte A = 65
+letterByte B = 66
+letterByte C = 67
+letterByte D = 68
+letterByte E = 69
+letterByte F = 70
+
+-- the same test by a quotient rounded up, where the product might not fit
+pub by-quotient : (k n area : ℕ) → 1 ≤ k → leb ((22 * n + (k - 1)) / k) area ≡ holdsAtMost k n area
+unfolding holdsAtMost
+by-quotient k n area pos =
+    let d = div-lt-iff-lt-mul {k = k} {x = 22 * n + (k - 1)} {y = area + 1} pos in
+    leb-iff ((22 * n + (k - 1)) / k) area (22 * n) (k * area) (λ h. omega (arith, d .0 (omega arith)), λ h. omega (arith, d .1 (omega arith)))
