@@ -12,4 +12,3 @@ pub mod Laws
 pub mod Balance
 pub mod Bounds
 pub mod Passing
-pub mod Examples

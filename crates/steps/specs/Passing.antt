@@ -33,6 +33,10 @@ pub record Movable (here : InForce) (cell : Cell) (flow : Flow) (most : ℕ) : T
   pub ramp-most : (flow .ramp ≤ 10000) × (flow .ramp ≤ cell .q + here .demand)
   pub most-is : most ≡ mostOf here cell
 
+-- what is in force at a segment, read from the row, is good
+pub good-here : (c : Conditions) (i : ℕ) (here : InForce) → GoodConditions c → i < c .segments → here ≡ inForceAt c i → GoodPlace here
+good-here c i here good h e = rw e (good .place i h)
+
 pub fits-split : (here : InForce) (cell : Cell) (split : Split) → split ≡ splitOf here cell → GoodPlace here → Held 5760 cell → GoodSplit split
 fits-split here cell split s good held = rw s (good-split here cell good held)
 

@@ -47,7 +47,7 @@ through-most s y = omega arith
 -- ---- Y0 and y
 pub most-leaving-most : (s : Split) (f d : ℕ) → mostLeaving s f d ≤ d
 unfolding mostLeaving
-most-leaving-most s f d = largest-most (λ y. leb (off s y) f) d
+most-leaving-most s f d = largest-most _ d
 
 pub most-leaving-off : (s : Split) (f d : ℕ) → GoodSplit s → off s (mostLeaving s f d) ≤ f
 unfolding mostLeaving
@@ -56,7 +56,7 @@ most-leaving-off s f d g =
 
 pub leaving-most : (s : Split) (b f : ℕ) → leaving s b f ≤ b
 unfolding leaving
-leaving-most s b f = largest-most (λ y. leb (through s y) f) b
+leaving-most s b f = largest-most _ b
 
 -- what goes on is exactly what the node ahead lets in, where that is no more than wished to
 pub leaving-through : (s : Split) (b f : ℕ) → f ≤ through s b → through s (leaving s b f) ≡ f

@@ -13,7 +13,7 @@ ghost use Rattle.conditions.specs.Conditions.{inForceAt};
 ghost use Rattle.conditions.specs.Good.{GoodPlace, GoodConditions};
 ghost use Rattle.conditions.specs.Row.{conditionsIn};
 ghost use Rattle.steps.specs.Rules.{wishToLeave, off, through, mostLeaving, rampWish, entrance, supply, rampFlow, mainFlow, leaving};
-ghost use Rattle.steps.specs.Place.{splitOf, mostOf, sentOf, supplyOf, inflowOf, movedOf};
+ghost use Rattle.steps.specs.Place.{splitOf, sentOf, supplyOf, inflowOf, movedOf};
 ghost use Rattle.steps.specs.Step.{freshState, stepped, arrivedOf, leftOf, storedOf};
 ghost use Rattle.steps.specs.Held.{Held, Bounded};
 ghost use Rattle.steps.specs.Split.{GoodSplit};
@@ -186,11 +186,12 @@ fn supply_in(here: InForce, cell: Cell, queued: bool) -> u64
     )
 }
 
-// f and r at the entrance of a segment, by the mainline wish and whether a queue stands before the node.
-fn inflow(here: InForce, cell: Cell, wish: u64, queued: bool) -> Flow
-    requires { ⌜ GoodPlace here × Held 5760 cell ⌝ }
-    ensures { λ r. ⌜ r ≡ inflowOf here cell wish queued ⌝ }
+// f and r at node i, the entrance of segment i with its cell, by the mainline wish and whether a queue stands before the node.
+fn flow_at(row: &[u32; 707], i: usize, cell: Cell, wish: u64, queued: bool) -> Flow
+    requires { ⌜ GoodConditions (conditionsIn (now row)) × (i < conditionsIn (now row) .segments) × Held 5760 cell ⌝ }
+    ensures { λ r. ⌜ r ≡ inflowOf (inForceAt (conditionsIn (now (row .entry))) i) cell wish queued ⌝ }
 {
+    let here = in_force_at(row, i);
     let p = supply_in(here, cell, queued);
     let w = ramp_wish(wide(cell.q), here.demand, here.limit);
     let ramp = ramp_flow(p, here.lanes, wish, w);
@@ -200,25 +201,20 @@ fn inflow(here: InForce, cell: Cell, wish: u64, queued: bool) -> Flow
     }
 }
 
-// Y0 of a segment.
-fn most_of(here: InForce, cell: Cell) -> u64
-    requires { ⌜ GoodPlace here × Held 5760 cell ⌝ }
-    ensures { λ r. ⌜ r ≡ mostOf here cell ⌝ }
+// What segment i with its cell sends on.
+fn sent_at(row: &[u32; 707], i: usize, cell: Cell) -> Sent
+    requires { ⌜ GoodConditions (conditionsIn (now row)) × (i < conditionsIn (now row) .segments) × Held 5760 cell ⌝ }
+    ensures { λ r. ⌜ r ≡ sentOf (inForceAt (conditionsIn (now (row .entry))) i) cell ⌝ }
 {
-    let wish = wish_to_leave(wide(cell.n), here.capacity, here.speed, here.length);
-    most_leaving(split_of(here, cell), here.offramp, wish)
-}
-
-// What a segment sends on.
-fn sent_on(here: InForce, cell: Cell) -> Sent
-    requires { ⌜ GoodPlace here × Held 5760 cell ⌝ }
-    ensures { λ r. ⌜ r ≡ sentOf here cell ⌝ }
-{
-    let most = most_of(here, cell);
+    let here = in_force_at(row, i);
+    let n = wide(cell.n);
+    let split = split_of(here, cell);
+    let wish = wish_to_leave(n, here.capacity, here.speed, here.length);
+    let most = most_leaving(split, here.offramp, wish);
     Sent {
         most,
-        wish: through_of(split_of(here, cell), most),
-        queued: here.critical < wide(cell.n),
+        wish: through_of(split, most),
+        queued: here.critical < n,
     }
 }
 
@@ -238,22 +234,6 @@ fn moved(here: InForce, cell: Cell, flow: Flow, most: u64, ahead: u64) -> Cell
         off: off as u32,
         out: y as u32,
     }
-}
-
-// f and r at node i, of the cell behind it.
-fn flow_at(row: &[u32; 707], i: usize, cell: Cell, wish: u64, queued: bool) -> Flow
-    requires { ⌜ GoodConditions (conditionsIn (now row)) × (i < conditionsIn (now row) .segments) × Held 5760 cell ⌝ }
-    ensures { λ r. ⌜ r ≡ inflowOf (inForceAt (conditionsIn (now (row .entry))) i) cell wish queued ⌝ }
-{
-    inflow(in_force_at(row, i), cell, wish, queued)
-}
-
-// What segment i with its cell sends on.
-fn sent_at(row: &[u32; 707], i: usize, cell: Cell) -> Sent
-    requires { ⌜ GoodConditions (conditionsIn (now row)) × (i < conditionsIn (now row) .segments) × Held 5760 cell ⌝ }
-    ensures { λ r. ⌜ r ≡ sentOf (inForceAt (conditionsIn (now (row .entry))) i) cell ⌝ }
-{
-    sent_on(in_force_at(row, i), cell)
 }
 
 // The cell of segment i after the step.

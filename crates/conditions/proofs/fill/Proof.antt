@@ -2,7 +2,6 @@
 use Prim.Native.Nat.{_≤_, _-_}
 use mathlib.Core.Path.{_≡_, refl, ap}
 use native.Mathlib.Omega.{arith}
-use borrow.Author.Needs.{needs}
 use Rattle.sheets.specs.declared.RoadGlobals.{RoadGlobals}
 use Rattle.sheets.specs.declared.PeriodGlobals.{PeriodGlobals}
 use Rattle.conditions.specs.Filling.{Filling, filling-start, filling-fits, filling-more, filling-done}
@@ -17,10 +16,10 @@ abbrev μ-loop : tie.MeasureT-loop
 μ-loop road period row₀ g ns i₀ row i = ns - i
 
 globals-of-road-requires : tie.Need-globals-of-road-requires Inv-loop μ-loop
-globals-of-road-requires c κs = search needs
+globals-of-road-requires c κs = tt
 
 globals-of-period-requires : tie.Need-globals-of-period-requires Inv-loop μ-loop
-globals-of-period-requires c κs = search needs
+globals-of-period-requires c κs = tt
 
 put-number-requires : tie.Need-put-number-requires Inv-loop μ-loop
 put-number-requires c κs = let e : c .before .before .globals-of-road .result .segments ≤ 64 = rw (c .before .before .globals-of-road .ensures) (c .before .before .before .pre .0 .segments .1) in (omega arith, omega arith)

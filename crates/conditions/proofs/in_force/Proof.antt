@@ -14,7 +14,7 @@ parts-at-requires-2 : tie.Need-parts-at-requires-2
 parts-at-requires-2 c κs = search needs
 
 least-requires : tie.Need-least-requires
-least-requires c κs = search needs
+least-requires c κs = tt
 
 returns : tie.Need-returns
 unfolding inForce

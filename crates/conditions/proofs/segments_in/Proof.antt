@@ -1,6 +1,5 @@
 -- The first number.
 use mathlib.Core.Path.{refl}
-use native.Mathlib.Omega.{arith}
 use borrow.Author.Needs.{needs}
 use Rattle.conditions.specs.Row.{conditionsIn}
 use Rattle.conditions.proofs.segments_in.Statement.{statement}

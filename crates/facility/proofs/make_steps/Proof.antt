@@ -2,7 +2,6 @@
 use mathlib.Core.Path.{_≡_, refl, ap}
 use native.Mathlib.Omega.{arith}
 use Prim.Native.Nat.{_-_}
-use borrow.Author.Needs.{needs}
 use Rattle.steps.specs.declared.Stepped.{Stepped}
 use Rattle.steps.specs.Step.{arrivedOf}
 use Rattle.conditions.specs.Row.{conditionsIn}
@@ -36,7 +35,7 @@ add-left : tie.Need-add-left Inv-loop μ-loop
 add-left c = omega (arith, turn-sums _ _ (c .before .before .before .before .before .before .before .before .before .before .before .before .before .before .before .pre) _ _ _ _ _ (c .before .before .before .before .before .loop .inv .0) (c .before .before .before .before .loop-test .taken) .1, ap (λ (s : Stepped). s .left) (rw (c .before .before .before .before .before .loop .inv .2) at (c .before .before .step .ensures)))
 
 less-requires : tie.Need-less-requires Inv-loop μ-loop
-less-requires c κs = search needs
+less-requires c κs = tt
 
 add-partsteps : tie.Need-add-partsteps Inv-loop μ-loop
 add-partsteps c = omega (arith, turn-sums _ _ (c .before .before .before .before .before .before .before .before .before .before .before .before .before .before .before .before .pre) _ _ _ _ _ (c .before .before .before .before .before .before .loop .inv .0) (c .before .before .before .before .before .loop-test .taken) .2, c .less .ensures, c .before .before .before .before .before .before .loop .inv .1, ap (λ (s : Stepped). s .left) (rw (c .before .before .before .before .before .before .loop .inv .2) at (c .before .before .before .step .ensures)))

@@ -7,7 +7,6 @@ use Rattle.steps.specs.Step.{cellIn}
 use Rattle.conditions.specs.Conditions.{inForceAt, inForce, conditionsOf}
 use Rattle.conditions.specs.Good.{in-force-at}
 use Rattle.facility.specs.Calls.{reported, levelAt, sheetBy}
-use borrow.Author.Needs.{needs}
 use Rattle.facility.proofs.report_at.Statement.{statement}
 use Rattle.facility.proofs.report_at.Tie as tie
 
@@ -31,7 +30,7 @@ cast-level-of-2 c =
     rw (c .before .before .segment-at .ensures) (omega (arith, a .pre .0 .segment (a .args .i) (a .pre .1) .lanes .1))
 
 level-of-requires : tie.Need-level-of-requires
-level-of-requires c κs = search needs
+level-of-requires c κs = tt
 
 returns : tie.Need-returns
 unfolding levelAt inForce

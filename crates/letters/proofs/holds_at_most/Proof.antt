@@ -5,7 +5,7 @@ use Rattle.letters.proofs.holds_at_most.Statement.{statement}
 use Rattle.letters.proofs.holds_at_most.Tie as tie
 
 wide-requires : tie.Need-wide-requires
-wide-requires c κs = search needs
+wide-requires c κs = tt
 
 mul-need : tie.Need-mul-need
 mul-need c = search needs

@@ -3,22 +3,21 @@ use Prim.Native.Nat.{_≤_}
 use native.Mathlib.Omega.{arith}
 use native.Mathlib.Nat.{mul-le-mul}
 use mir.Facts.{fits-le, fits-lit}
-use borrow.Author.Needs.{needs}
 use Rattle.letters.specs.Level.{levelOf}
 use Rattle.letters.proofs.level_of.Statement.{statement}
 use Rattle.letters.proofs.level_of.Tie as tie
 
 wide-requires : tie.Need-wide-requires
-wide-requires c κs = search needs
+wide-requires c κs = tt
 
 wide-requires-2 : tie.Need-wide-requires-2
-wide-requires-2 c κs = search needs
+wide-requires-2 c κs = tt
 
 mul-level-by : tie.Need-mul-level-by
 mul-level-by c = let a : c .before .wide .result ≤ 4294967295 = omega (arith, c .before .wide .ensures .1) in let b : c .wide2 .result ≤ 4294967295 = omega (arith, c .wide2 .ensures .1) in fits-le (mul-le-mul a b) (fits-lit tt)
 
 level-by-requires : tie.Need-level-by-requires
-level-by-requires c κs = search needs
+level-by-requires c κs = tt
 
 returns : tie.Need-returns
 unfolding levelOf

@@ -2,7 +2,6 @@
 use Prim.Native.Nat.{_≤_, _-_, _*_}
 use mathlib.Core.Path.{_≡_, refl}
 use native.Mathlib.Omega.{arith}
-use borrow.Author.Needs.{needs}
 use Rattle.steps.specs.Sums.{sum-more}
 use Rattle.conditions.specs.Conditions.{inForceAt}
 use Rattle.conditions.specs.Row.{conditionsIn}
@@ -17,7 +16,7 @@ abbrev μ-loop : tie.MeasureT-loop
 μ-loop row ns sum₀ i₀ sum i = ns - i
 
 segments-in-requires : tie.Need-segments-in-requires Inv-loop μ-loop
-segments-in-requires c κs = search needs
+segments-in-requires c κs = tt
 
 loop-holds : tie.Need-loop-holds Inv-loop μ-loop
 unfolding sumTo
@@ -39,7 +38,7 @@ loop-again : tie.Need-loop-again Inv-loop μ-loop
 loop-again c = let d : c .before .in-force-at .result .demand ≤ 10000 = rw (c .before .in-force-at .ensures) (c .before .before .before .before .before .pre .place (c .before .before .before .loop .i) (omega (arith, c .before .before .before .loop .inv)) .demand) in (omega arith, c .before .before .before .loop .inv .1, omega (arith, c .before .before .before .loop .inv), sum-more (λ j. inForceAt (conditionsIn (c .before .before .before .before .before .args .row .now)) j .demand) _ _ _ (c .before .before .before .loop .inv .3) (rw (c .before .in-force-at .ensures)))
 
 demand-in-requires : tie.Need-demand-in-requires Inv-loop μ-loop
-demand-in-requires c κs = search needs
+demand-in-requires c κs = tt
 
 add-result : tie.Need-add-result Inv-loop μ-loop
 add-result c = let d : c .demand-in .result ≤ 20000 = rw (c .demand-in .ensures) (c .before .before .before .before .pre .demand) in omega (arith, c .before .before .loop .inv, c .before .before .before .before .pre .segments .1)

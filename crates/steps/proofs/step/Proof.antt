@@ -2,7 +2,6 @@
 use Prim.Native.Nat.{_≤_, _<_, _-_, _+_}
 use mathlib.Core.Path.{_≡_, refl, sym, _∙_}
 use native.Mathlib.Omega.{arith}
-use borrow.Author.Needs.{needs}
 use lib.ListN.{length, length-map}
 use Rattle.conditions.specs.Row.{conditionsIn}
 use Rattle.steps.specs.Passing.{Passing, first-fits, left-small, movable-at, started, turned, done}
@@ -24,22 +23,22 @@ cells-long : (c : tie.Start Inv-loop μ-loop) → length (c .args .t2 .cells) �
 cells-long c = sym (length-map (c .args .t2 .cells) _) ∙ c .good .1 .0 .1 .1 .0 .1 .0 .1
 
 segments-in-requires : tie.Need-segments-in-requires Inv-loop μ-loop
-segments-in-requires c κs = search needs
+segments-in-requires c κs = tt
 
 sub-last : tie.Need-sub-last Inv-loop μ-loop
 sub-last c = omega (arith, c .segments-in .ensures, c .before .pre .0 .segments .0)
 
 wide-requires : tie.Need-wide-requires Inv-loop μ-loop
-wide-requires c κs = search needs
+wide-requires c κs = tt
 
 demand-in-requires : tie.Need-demand-in-requires Inv-loop μ-loop
-demand-in-requires c κs = search needs
+demand-in-requires c κs = tt
 
 add-wish : tie.Need-add-wish Inv-loop μ-loop
 add-wish c = omega (arith, c .demand-in .ensures, c .before .before .before .pre .0 .demand)
 
 element-copy-out-flow-at : tie.Need-element-copy-out-flow-at Inv-loop μ-loop
-element-copy-out-flow-at c = search needs
+element-copy-out-flow-at c = omega arith
 
 flow-at-requires : tie.Need-flow-at-requires Inv-loop μ-loop
 flow-at-requires c κs = let p = c .before .before .before .before .before .pre in (p .0, p .0 .segments .0, p .1 .cells 0 (p .0 .segments .0))
@@ -78,7 +77,7 @@ moved-at-requires : tie.Need-moved-at-requires Inv-loop μ-loop
 moved-at-requires c κs = let at = c .before .before .before .before .before in let start = entry at in let h = at .loop .inv .last-one in let l : at .loop .i < conditionsIn (start .args .row .now) .segments = omega arith in (omega (arith, start .pre .0 .segments .1), l, movable-at _ (start .args .t2) (start .pre .0) (start .pre .1) _ _ _ l (at .loop .inv .flow-is) (c .before .before .sent-at .ensures))
 
 wide-requires-2 : tie.Need-wide-requires-2 Inv-loop μ-loop
-wide-requires-2 c κs = search needs
+wide-requires-2 c κs = tt
 
 add-left : tie.Need-add-left Inv-loop μ-loop
 add-left c = let at = c .before .before .before .before .before .before .before in let start = entry at in omega (arith, c .wide2 .ensures .1, left-small _ _ _ _ _ _ _ _ (at .loop .inv) (start .pre .0) (start .pre .1))
@@ -110,16 +109,16 @@ sent-at-requires-2 : tie.Need-sent-at-requires-2 Inv-loop μ-loop
 sent-at-requires-2 c κs = let at = c .before .before in let start = entry at in let h = at .loop .inv .last-one in let l : at .loop .i < conditionsIn (start .args .row .now) .segments = omega (arith, at .loop .inv .within) in (start .pre .0, l, start .pre .1 .cells _ l)
 
 exit-in-requires : tie.Need-exit-in-requires Inv-loop μ-loop
-exit-in-requires c κs = search needs
+exit-in-requires c κs = tt
 
 least-requires : tie.Need-least-requires Inv-loop μ-loop
-least-requires c κs = search needs
+least-requires c κs = tt
 
 moved-at-requires-2 : tie.Need-moved-at-requires-2 Inv-loop μ-loop
 moved-at-requires-2 c κs = let at = c .before .before .before .before .before in let start = entry at in let h = at .loop .inv .last-one in let l : at .loop .i < conditionsIn (start .args .row .now) .segments = omega (arith, at .loop .inv .within) in (omega (arith, start .pre .0 .segments .1), l, movable-at _ (start .args .t2) (start .pre .0) (start .pre .1) _ _ _ l (at .loop .inv .flow-is) (c .before .before .sent-at2 .ensures))
 
 wide-requires-3 : tie.Need-wide-requires-3 Inv-loop μ-loop
-wide-requires-3 c κs = search needs
+wide-requires-3 c κs = tt
 
 add-left-2 : tie.Need-add-left-2 Inv-loop μ-loop
 add-left-2 c = let at = c .before .before .before .before .before .before .before in let start = entry at in omega (arith, c .wide3 .ensures .1, left-small _ _ _ _ _ _ _ _ (at .loop .inv) (start .pre .0) (start .pre .1))

@@ -1,5 +1,4 @@
 -- E, then P.
-use borrow.Author.Needs.{needs}
 use native.Mathlib.Omega.{arith}
 use Rattle.steps.specs.Formulas.{entrance-most}
 use Rattle.steps.specs.Place.{supplyOf, entranceOf}
@@ -7,10 +6,10 @@ use Rattle.steps.proofs.supply_in.Statement.{statement}
 use Rattle.steps.proofs.supply_in.Tie as tie
 
 entrance-of-requires : tie.Need-entrance-of-requires
-entrance-of-requires c κs = search needs
+entrance-of-requires c κs = tt
 
 wide-requires : tie.Need-wide-requires
-wide-requires c κs = search needs
+wide-requires c κs = tt
 
 supply-of-requires : tie.Need-supply-of-requires
 supply-of-requires c κs = let p = c .before .before .pre in (omega (arith, c .before .entrance-of .ensures, entrance-most (c .before .before .args .here .capacity) (c .before .before .args .here .lowered) (c .before .before .args .queued) (p .lowered), p .capacity), p .capacity, p .jam, p .critical)
