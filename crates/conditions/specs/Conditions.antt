@@ -36,35 +36,36 @@ inForce g seg ramp = record {
 }
 
 -- the sheet in force: none before the first is taken
-pub data Sheet : Type 0 where
-  None : Sheet
-  Under : List ℕ → Sheet
+pub data SheetInForce : Type 0 where
+  None : SheetInForce
+  Under : List ℕ → SheetInForce
 
 -- without a sheet nobody arrives, every ramp is held and the exit is shut
-unfoldable pub demandUnder : Sheet → ℕ
+unfoldable pub demandUnder : SheetInForce → ℕ
 demandUnder None = 0
 demandUnder (Under period) = periodGlobals period .demand
 
-unfoldable pub exitUnder : Sheet → ℕ
+unfoldable pub exitUnder : SheetInForce → ℕ
 exitUnder None = 0
 exitUnder (Under period) = periodGlobals period .exit
 
-unfoldable pub rampUnder : Sheet → ℕ → Ramp
+unfoldable pub rampUnder : SheetInForce → ℕ → Ramp
 rampUnder None i = record { demand = 0; meter = 0 }
 rampUnder (Under period) i = rampOf period i
 
+-- NS, the mainline demand, X, and what is in force at each segment
 pub record Conditions : Type 0 where
   pub segments : ℕ
   pub demand : ℕ
   pub exit : ℕ
   pub places : List InForce
 
--- NS
+-- NS of a road
 abbrev pub segments : List ℕ → ℕ
 segments road = roadGlobals road .segments
 
 -- the conditions of a road under the sheet in force
-unfoldable pub conditionsOf : List ℕ → Sheet → Conditions
+unfoldable pub conditionsOf : List ℕ → SheetInForce → Conditions
 conditionsOf road sheet = record {
   segments = segments road;
   demand = demandUnder sheet;

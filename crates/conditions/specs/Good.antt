@@ -11,7 +11,7 @@ use Rattle.sheets.specs.Parts.{roadGlobals, segmentOf, rampOf}
 use Rattle.sheets.specs.Good.{GoodSegment, GoodRoad, GoodPeriod}
 use Rattle.conditions.specs.declared.InForce.{InForce}
 use Rattle.conditions.specs.Values.{values-at}
-use Rattle.conditions.specs.Conditions.{partsAt, loweredBy, inForce, Sheet, None, Under, demandUnder, exitUnder, rampUnder, Conditions, segments, conditionsOf, inForceAt}
+use Rattle.conditions.specs.Conditions.{partsAt, loweredBy, inForce, SheetInForce, None, Under, demandUnder, exitUnder, rampUnder, Conditions, segments, conditionsOf, inForceAt}
 
 pub record GoodPlace (here : InForce) : Type 0 where
   pub length : (1 ≤ here .length) × (here .length ≤ 26400)
@@ -39,7 +39,7 @@ pub record GoodGlobals (g : RoadGlobals) : Type 0 where
   pub drop : g .drop ≤ 50
 
 -- the sheet in force is one of the road's
-pub data GoodSheet (road : List ℕ) : Sheet → Type 0 where
+pub data GoodSheet (road : List ℕ) : SheetInForce → Type 0 where
   none : GoodSheet road None
   under : {period : List ℕ} → GoodPeriod road period → GoodSheet road (Under period)
 
@@ -86,27 +86,27 @@ good-place g seg ramp a b d = record {
 }
 
 -- ---- the conditions of a road under a sheet
-pub conditions-segments : (road : List ℕ) (sheet : Sheet) → conditionsOf road sheet .segments ≡ segments road
+pub conditions-segments : (road : List ℕ) (sheet : SheetInForce) → conditionsOf road sheet .segments ≡ segments road
 unfolding conditionsOf
 conditions-segments road sheet = refl
 
-pub in-force-at : (road : List ℕ) (sheet : Sheet) (i : ℕ) →
+pub in-force-at : (road : List ℕ) (sheet : SheetInForce) (i : ℕ) →
     i < segments road →
     inForceAt (conditionsOf road sheet) i ≡ inForce (roadGlobals road) (segmentOf road i) (rampUnder sheet i)
 unfolding conditionsOf
 in-force-at road sheet i h = values-at _ _ i _ h
 
-ramp-good : (road : List ℕ) (sheet : Sheet) → GoodSheet road sheet → (i : ℕ) → i < segments road → rampUnder sheet i .demand ≤ 10000
+ramp-good : (road : List ℕ) (sheet : SheetInForce) → GoodSheet road sheet → (i : ℕ) → i < segments road → rampUnder sheet i .demand ≤ 10000
 unfolding rampUnder
 ramp-good road _ none i h = omega arith
 ramp-good road _ (under p) i h = p .ramp i h .0
 
-flows-good : (road : List ℕ) (sheet : Sheet) → GoodSheet road sheet → (demandUnder sheet ≤ 20000) × (exitUnder sheet ≤ 20000)
+flows-good : (road : List ℕ) (sheet : SheetInForce) → GoodSheet road sheet → (demandUnder sheet ≤ 20000) × (exitUnder sheet ≤ 20000)
 unfolding demandUnder exitUnder
 flows-good road _ none = (omega arith, omega arith)
 flows-good road _ (under p) = (p .demand, p .exit)
 
-pub good-conditions : (road : List ℕ) (sheet : Sheet) → GoodRoad road → GoodSheet road sheet → GoodConditions (conditionsOf road sheet)
+pub good-conditions : (road : List ℕ) (sheet : SheetInForce) → GoodRoad road → GoodSheet road sheet → GoodConditions (conditionsOf road sheet)
 unfolding conditionsOf
 good-conditions road sheet good fits = record {
   segments = good .segments;

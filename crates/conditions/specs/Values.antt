@@ -5,6 +5,7 @@ use mathlib.Core.Path.{_≡_, refl}
 use native.Mathlib.Omega.{arith}
 use lib.ListN.{getD}
 
+-- the values at 0, 1 and so on, so many of them
 unfoldable pub valuesTo : {A : Type 0} → (ℕ → A) → ℕ → List A
 valuesTo g zero = []
 valuesTo g (suc k) = g zero ∷ valuesTo (λ i. g (suc i)) k

@@ -10,7 +10,7 @@ use borrow.Author.Tests.{ne-eqb}
 use Rattle.numbers.specs.Choice.{if_then_else_}
 use Rattle.sheets.specs.Read.{Rows, ReadRow, RefusedAt, readPeriod}
 use Rattle.sheets.specs.Refusals.{period-refusal}
-use Rattle.conditions.specs.Conditions.{Conditions, inForceAt, Sheet, None, Under, conditionsOf, segments}
+use Rattle.conditions.specs.Conditions.{Conditions, inForceAt, SheetInForce, None, Under, conditionsOf, segments}
 use Rattle.steps.specs.Step.{cellIn}
 use Rattle.letters.specs.Level.{levelOf}
 use Rattle.facility.specs.declared.Facility.{Facility}
@@ -27,11 +27,11 @@ unfolding freshOn arrivedIn leftIn partstepsIn
 view-opened road = refl
 
 -- the facility has the book's sheet in force
-shown-by : {road : List ℕ} {n : ℕ} {s : Sheet} → Shown road n s → sheetBy n (rowIn s) ≡ s
+shown-by : {road : List ℕ} {n : ℕ} {s : SheetInForce} → Shown road n s → sheetBy n (rowIn s) ≡ s
 shown-by unsheeted = refl
 shown-by (sheeted-as some e) = sheeted-by-some _ _ some
 
-shown-sheeted : {road : List ℕ} {n : ℕ} {s : Sheet} → Shown road n s → sheeted n road (rowIn s) ≡ true
+shown-sheeted : {road : List ℕ} {n : ℕ} {s : SheetInForce} → Shown road n s → sheeted n road (rowIn s) ≡ true
 unfolding sheeted
 shown-sheeted unsheeted = refl
 shown-sheeted (sheeted-as {n = n} some e) = rw (ne-eqb n 0 (λ z. omega arith)) e

@@ -13,7 +13,7 @@ use Rattle.sheets.specs.Allowed.{roadAllowed, periodAllowed}
 use Rattle.sheets.specs.Good.{GoodRoad, good-road, good-period, read-period-allowed}
 use Rattle.sheets.specs.Read.{Rows, ReadRow, RefusedAt, readPeriod, padded}
 use Rattle.steps.specs.declared.Cell.{Cell}
-use Rattle.conditions.specs.Conditions.{Conditions, inForceAt, inForce, Sheet, None, Under, conditionsOf, segments}
+use Rattle.conditions.specs.Conditions.{Conditions, inForceAt, inForce, SheetInForce, None, Under, conditionsOf, segments}
 use Rattle.steps.specs.Step.{cellIn, stepped, freshState, arrivedOf, leftOf, storedOf, sumTo}
 use Rattle.conditions.specs.Good.{GoodSheet, none as none-sheet, under, good-conditions, in-force-at, conditions-segments}
 use Rattle.steps.specs.Held.{Bounded}
@@ -31,19 +31,19 @@ pub record Kept (road : List ℕ) (t : Trail) : Type 0 where
   pub chained : Chained t
   pub balanced : Balanced t
   pub cells : length (stateAfter t .cells) ≡ 64
-  pub jam : (sheet : Sheet) (i : ℕ) → i < segments road → cellIn (stateAfter t) i .n ≤ inForceAt (conditionsOf road sheet) i .jam
+  pub jam : (sheet : SheetInForce) (i : ℕ) → i < segments road → cellIn (stateAfter t) i .n ≤ inForceAt (conditionsOf road sheet) i .jam
   pub bounds : Bounded (segments road) (length t) (stateAfter t)
   pub balance : arrivedIn t ≡ leftIn t + storedOf (segments road) (stateAfter t)
   pub sums : Summed (length t) (arrivedIn t) (leftIn t) (partstepsIn t)
 
 -- the jam is the road's alone
-same-jam : (road : List ℕ) (s t : Sheet) (i : ℕ) → i < segments road → inForceAt (conditionsOf road s) i .jam ≡ inForceAt (conditionsOf road t) i .jam
+same-jam : (road : List ℕ) (s t : SheetInForce) (i : ℕ) → i < segments road → inForceAt (conditionsOf road s) i .jam ≡ inForceAt (conditionsOf road t) i .jam
 unfolding inForce
 same-jam road s t i h = rw (in-force-at road s i h, in-force-at road t i h)
 
 module _ (road : List ℕ) (good : GoodRoad road) where
   -- a step more
-  kept-step : (sheet : Sheet) → GoodSheet road sheet → (t : Trail) → length t < 5760 → Kept road t → Kept road (stepFrom (conditionsOf road sheet) (stateAfter t) ∷ t)
+  kept-step : (sheet : SheetInForce) → GoodSheet road sheet → (t : Trail) → length t < 5760 → Kept road t → Kept road (stepFrom (conditionsOf road sheet) (stateAfter t) ∷ t)
   unfolding arrivedIn leftIn partstepsIn
   kept-step sheet fits t few k =
       let c = conditionsOf road sheet in
@@ -78,13 +78,13 @@ module _ (road : List ℕ) (good : GoodRoad road) where
   length-more c zero t = omega arith
   length-more c (suc n) t = omega (arith, length-more c n t)
 
-  pub kept-more : (sheet : Sheet) → GoodSheet road sheet → (n : ℕ) (t : Trail) → length t + n ≤ 5760 → Kept road t → Kept road (more (conditionsOf road sheet) n t)
+  pub kept-more : (sheet : SheetInForce) → GoodSheet road sheet → (n : ℕ) (t : Trail) → length t + n ≤ 5760 → Kept road t → Kept road (more (conditionsOf road sheet) n t)
   kept-more sheet fits zero t few k = k
   kept-more sheet fits (suc n) t few k =
       kept-step sheet fits (more (conditionsOf road sheet) n t) (omega (arith, length-more (conditionsOf road sheet) n t)) (kept-more sheet fits n t (omega arith) k)
 
 -- the invariant of a book
-pub data Shown (road : List ℕ) : ℕ → Sheet → Type 0 where
+pub data Shown (road : List ℕ) : ℕ → SheetInForce → Type 0 where
   unsheeted : Shown road 0 None
   sheeted-as : {n : ℕ} {period : List ℕ} → 0 < n → periodAllowed road period ≡ true → Shown road n (Under period)
 
@@ -141,7 +141,7 @@ nonzero (suc n) e = omega arith
 pub good-shown : (b : Book) → Fine b → GoodSheet (b .road) (b .sheet)
 good-shown b f = shown-good (b .road) (good-road (b .road) (f .road)) (f .sheet)
   where
-    shown-good : (road : List ℕ) → GoodRoad road → {n : ℕ} {s : Sheet} → Shown road n s → GoodSheet road s
+    shown-good : (road : List ℕ) → GoodRoad road → {n : ℕ} {s : SheetInForce} → Shown road n s → GoodSheet road s
     shown-good road good unsheeted = none-sheet
     shown-good road good (sheeted-as some e) = under (good-period road _ good e)
 

@@ -11,7 +11,7 @@ use Rattle.sheets.specs.Write.{rowBytes, roadRow, periodRow}
 use Rattle.steps.specs.declared.Cell.{Cell}
 use Rattle.letters.specs.declared.Level.{Level}
 use Rattle.letters.specs.declared.Level.the-variants.{A}
-use Rattle.conditions.specs.Conditions.{Conditions, inForceAt, Sheet, None, Under, conditionsOf, segments}
+use Rattle.conditions.specs.Conditions.{Conditions, inForceAt, SheetInForce, None, Under, conditionsOf, segments}
 use Rattle.steps.specs.Step.{cellIn, stepped, freshState, arrivedOf, leftOf, storedOf}
 use Rattle.letters.specs.Level.{levelOf}
 use Rattle.facility.specs.declared.Facility.{Facility}
@@ -26,7 +26,7 @@ abbrev pub noSheet : List ℕ
 noSheet = replicate 452 0
 
 -- the sheet in force, by the number of sheets taken
-abbrev pub sheetBy : ℕ → List ℕ → Sheet
+abbrev pub sheetBy : ℕ → List ℕ → SheetInForce
 sheetBy zero period = None
 sheetBy (suc n) period = Under period
 

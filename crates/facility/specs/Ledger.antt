@@ -9,7 +9,7 @@ use Rattle.steps.specs.declared.Cell.{Cell}
 use Rattle.steps.specs.declared.State.{State}
 use Rattle.letters.specs.declared.Level.{Level}
 use Rattle.conditions.specs.declared.InForce.{InForce}
-use Rattle.conditions.specs.Conditions.{Conditions, inForceAt, Sheet, None, Under, conditionsOf, segments}
+use Rattle.conditions.specs.Conditions.{Conditions, inForceAt, SheetInForce, None, Under, conditionsOf, segments}
 use Rattle.steps.specs.Step.{cellIn, stepped, freshState, arrivedOf, leftOf, storedOf}
 use Rattle.letters.specs.Level.{levelOf}
 
@@ -76,7 +76,7 @@ more c (suc k) t = stepFrom c (stateAfter (more c k t)) ∷ more c k t
 -- the book: the road and the sheet in force, the number of sheets taken, the steps made under the last, and the trail
 pub record Book : Type 0 where
   pub road : List ℕ
-  pub sheet : Sheet
+  pub sheet : SheetInForce
   pub taken : ℕ
   pub made : ℕ
   pub trail : Trail

@@ -1,13 +1,13 @@
 -- The facility that shows a book of the ledger, in every field.
 use mathlib.Core.List.{List}
 use Prim.Native.Nat.{ℕ}
-use Rattle.conditions.specs.Conditions.{Sheet, None, Under}
+use Rattle.conditions.specs.Conditions.{SheetInForce, None, Under}
 use Rattle.facility.specs.declared.Facility.{Facility}
 use Rattle.facility.specs.Calls.{noSheet}
 use Rattle.facility.specs.Ledger.{Book, stateAfter, arrivedIn, leftIn, partstepsIn}
 
 -- the row of the sheet in force
-abbrev pub rowIn : Sheet → List ℕ
+abbrev pub rowIn : SheetInForce → List ℕ
 rowIn None = noSheet
 rowIn (Under period) = period
 

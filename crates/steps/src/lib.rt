@@ -114,12 +114,15 @@ fn entrance_of(capacity: u64, lowered: u64, queued: bool) -> u64
     if queued { lowered } else { capacity }
 }
 
-// P. The quotient is worked out only where it is below E.
+// P. Up to Q the quotient is at least C; above it, the quotient is worked out only where it is below E.
 fn supply_of(entrance: u64, capacity: u64, jam: u64, critical: u64, n: u64) -> u64
-    requires { ⌜ (entrance ≤ 20000) × (capacity ≤ 20000) × (jam ≤ 2880000) × (critical < jam) ⌝ }
+    requires { ⌜ (entrance ≤ capacity) × (capacity ≤ 20000) × (jam ≤ 2880000) × (critical < jam) ⌝ }
     ensures { λ r. ⌜ r ≡ supply entrance capacity jam critical n ⌝ }
 {
     let room = less(jam, n);
+    if n <= critical {
+        return least(entrance, room);
+    }
     let span = jam - critical;
     if entrance * span <= capacity * room {
         return least(entrance, room);

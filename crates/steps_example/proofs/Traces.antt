@@ -9,7 +9,7 @@ use Rattle.steps.specs.declared.State.{State}
 use Rattle.steps.specs.Rules.{largest, roundedUp, wishToLeave, off, through, mostLeaving, rampWish, entrance, supply, rampFlow, mainFlow, leaving}
 use Rattle.steps.specs.Step.{noCell, mainWishAt, queuedAt, mainFlowAt, replaced, stepped}
 use Rattle.steps.specs.Place.{splitOf, wishOf, mostOf, onwardOf, queuedOf, rampWishOf, entranceOf, supplyOf, inflowOf, leavingOf, movedOf}
-use Rattle.conditions.specs.Conditions.{partsAt, loweredBy, segments, Sheet, None, Under, conditionsOf, demandUnder, exitUnder, rampUnder, inForce}
+use Rattle.conditions.specs.Conditions.{partsAt, loweredBy, segments, SheetInForce, None, Under, conditionsOf, demandUnder, exitUnder, rampUnder, inForce}
 use Rattle.conditions.specs.Values.{valuesTo}
 
 cell : (n q f r off y : ℕ) → Cell
@@ -20,7 +20,7 @@ laid : ℕ → State
 laid ns = record { cells = replicate ns noCell; origin = 0; exit = 0 }
 
 -- so many steps from a road just laid, under a sheet or under none
-after : ℕ → List ℕ → Sheet → State
+after : ℕ → List ℕ → SheetInForce → State
 after zero road sheet = laid (segments road)
 after (suc k) road sheet = stepped (conditionsOf road sheet) (after k road sheet)
 
