@@ -1,4 +1,4 @@
-// Small arithmetic that every layer uses, so that branches do not meet in its callers.
+// Small arithmetic of the layers above the sheets, so that branches do not meet in its callers.
 ghost use mathlib.Core.Path.{_≡_};
 ghost use Prim.Native.Nat.{_-_, _<_, min};
 

@@ -1,6 +1,6 @@
 -- What is in force while a step is made: NS, the mainline demand, the exit capacity X, and at each segment the numbers that the step rules
 -- of document 01, "One step", go by there. Here alone a road and a period sheet become conditions.
-use Prim.Native.Nat.{ℕ, zero, suc, _-_, _*_, _/_, min}
+use Prim.Native.Nat.{ℕ, _-_, _*_, _/_, min}
 use mathlib.Core.List.{List}
 use lib.ListN.{getD}
 use Rattle.sheets.specs.declared.RoadGlobals.{RoadGlobals}
@@ -18,8 +18,8 @@ partsAt k n l = k * n * l / 22
 unfoldable pub loweredBy : (drop capacity : ℕ) → ℕ
 loweredBy a c = c * (100 - a) / 100
 
--- what is in force at a segment, from the road's KJ, KC and A, the segment, and its ramp's entry in the sheet; the limit is the lesser of
--- R and the meter rate
+-- what is in force at a segment, from the road's KJ, KC and A, the segment, and its ramp's entry in the sheet: L, V, N, C, C behind a queue,
+-- J, Q, the lesser of R and the meter rate, s, F and the ramp demand
 unfoldable pub inForce : RoadGlobals → Segment → Ramp → InForce
 inForce g seg ramp = record {
   length = seg .length;
@@ -64,19 +64,23 @@ pub record Conditions : Type 0 where
 abbrev pub segments : List ℕ → ℕ
 segments road = roadGlobals road .segments
 
+-- what is in force at segment i, counted from 0, of a road under the sheet in force
+abbrev pub inForceOf : List ℕ → SheetInForce → ℕ → InForce
+inForceOf road sheet i = inForce (roadGlobals road) (segmentOf road i) (rampUnder sheet i)
+
 -- the conditions of a road under the sheet in force
 unfoldable pub conditionsOf : List ℕ → SheetInForce → Conditions
 conditionsOf road sheet = record {
   segments = segments road;
   demand = demandUnder sheet;
   exit = exitUnder sheet;
-  places = valuesTo (λ i. inForce (roadGlobals road) (segmentOf road i) (rampUnder sheet i)) (segments road);
+  places = valuesTo (inForceOf road sheet) (segments road);
 }
 
 -- past the last segment nothing is in force
 abbrev pub nothingInForce : InForce
 nothingInForce = record { length = 0; speed = 0; lanes = 0; capacity = 0; lowered = 0; jam = 0; critical = 0; limit = 0; share = 0; offramp = 0; demand = 0 }
 
--- what is in force at segment i, counted from 0
+-- what is in force at segment i by the conditions
 abbrev pub inForceAt : Conditions → ℕ → InForce
 inForceAt c i = getD (c .places) i nothingInForce

@@ -1,6 +1,6 @@
 -- The loop that fills a row with the conditions of a road under a sheet.
-use Prim.Native.Nat.{ℕ, zero, suc, _+_, _*_, _≤_, _<_}
-use mathlib.Core.Path.{_≡_, refl, _∙_}
+use Prim.Native.Nat.{ℕ, _+_, _≤_, _<_}
+use mathlib.Core.Path.{_≡_, _∙_}
 use mathlib.Core.List.{List}
 use mathlib.Core.Logic.{⊎-elim}
 use native.Mathlib.Nat.{eq-or-lt-of-le}
@@ -13,15 +13,12 @@ use Rattle.sheets.specs.declared.Ramp.{Ramp}
 use Rattle.sheets.specs.Parts.{roadGlobals, segmentOf, periodGlobals, rampOf}
 use Rattle.sheets.specs.Good.{GoodRoad, GoodPeriod}
 use Rattle.conditions.specs.declared.InForce.{InForce}
-use Rattle.conditions.specs.Conditions.{inForce, segments, Under, demandUnder, exitUnder, rampUnder, conditionsOf}
+use Rattle.conditions.specs.Conditions.{inForce, segments, Under, inForceOf, demandUnder, exitUnder, rampUnder, conditionsOf}
 use Rattle.conditions.specs.Good.{GoodPlace, good-globals, good-place}
 use Rattle.conditions.specs.Values.{values-same}
 use Rattle.conditions.specs.Row.{inForceIn, conditionsIn, withInForce, with-in-force-at, with-in-force-before, with-in-force-earlier, with-in-force-length}
 
--- what is in force at a segment of a road under a sheet
-abbrev pub inForceOf : (road period : List ℕ) → ℕ → InForce
-inForceOf road period i = inForce (roadGlobals road) (segmentOf road i) (rampOf period i)
-
+-- the numbers before the segments' and those of the segments before i are put
 pub record Filling (road period : List ℕ) (g : RoadGlobals) (ns : ℕ) (row : List ℕ) (i : ℕ) : Type 0 where
   pub within : i ≤ ns
   pub all : ns ≡ segments road
@@ -30,7 +27,7 @@ pub record Filling (road period : List ℕ) (g : RoadGlobals) (ns : ℕ) (row : 
   pub first : getD row 0 0 ≡ segments road
   pub second : getD row 1 0 ≡ periodGlobals period .demand
   pub third : getD row 2 0 ≡ periodGlobals period .exit
-  pub filled : (j : ℕ) → j < i → inForceIn row j ≡ inForceOf road period j
+  pub filled : (j : ℕ) → j < i → inForceIn row j ≡ inForceOf road (Under period) j
 
 pub filling-start : (road period : List ℕ) (g : RoadGlobals) (ns a b d : ℕ) (row : List ℕ) →
     g ≡ roadGlobals road →
@@ -56,15 +53,17 @@ filling-start road period g ns a b d row e n l p q r =
 
 module _ (road period : List ℕ) (g : RoadGlobals) (ns i : ℕ) (row : List ℕ) (at : Filling road period g ns row i) where
   module _ (good : GoodRoad road) (sheet : GoodPeriod road period) (h : i < ns) (seg : Segment) (ramp : Ramp) (here : InForce) (s : seg ≡ segmentOf road i) (r : ramp ≡ rampOf period i) (e : here ≡ inForce g seg ramp) where
-    is-in-force : here ≡ inForceOf road period i
+    is-in-force : here ≡ inForceOf road (Under period) i
+    unfolding rampUnder
     is-in-force = rw (e, s, r, at .globals-are)
 
     pub filling-fits : (i < 64) × GoodPlace here
+    unfolding rampUnder
     filling-fits =
         let l : i < segments road = omega (arith, at .all) in
         (omega (arith, at .all, good .segments .1), rw is-in-force (good-place _ _ _ (good-globals road good) (good .segment i l) (sheet .ramp i l .0)))
 
-    same-or-earlier : (j : ℕ) → j < i + 1 → inForceIn (withInForce row i here) j ≡ inForceOf road period j
+    same-or-earlier : (j : ℕ) → j < i + 1 → inForceIn (withInForce row i here) j ≡ inForceOf road (Under period) j
     same-or-earlier j l =
         ⊎-elim
         (λ (q : j ≡ i). rw q (with-in-force-at row i here (omega (arith, at .long, filling-fits .0)) ∙ is-in-force))
@@ -87,4 +86,4 @@ module _ (road period : List ℕ) (g : RoadGlobals) (ns i : ℕ) (row : List ℕ
   unfolding conditionsIn conditionsOf demandUnder exitUnder rampUnder
   filling-done h =
       let n : i ≡ segments road = omega (arith, at .within, at .all) in
-      rw (at .second, at .third, at .first, values-same (inForceIn row) (inForceOf road period) (segments road) (λ j l. at .filled j (omega arith)))
+      rw (at .second, at .third, at .first, values-same (inForceIn row) (inForceOf road (Under period)) (segments road) (λ j l. at .filled j (omega arith)))

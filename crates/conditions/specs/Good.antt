@@ -1,5 +1,5 @@
--- Conditions whose numbers are in their ranges, and that those of a good road under a good sheet are.
-use Prim.Native.Nat.{ℕ, _-_, _*_, _≤_, _<_, min}
+-- Conditions whose numbers are within what the step's arithmetic asks, and that those of a good road under a good sheet are.
+use Prim.Native.Nat.{ℕ, _-_, _*_, _≤_, _<_}
 use mathlib.Core.Path.{_≡_, refl}
 use mathlib.Core.List.{List}
 use native.Mathlib.Nat.{mul-le-mul, mul-le-mul-left, mul-le-mul-right, sub-le}
@@ -7,12 +7,13 @@ use native.Mathlib.Omega.{arith}
 use Rattle.sheets.specs.declared.RoadGlobals.{RoadGlobals}
 use Rattle.sheets.specs.declared.Segment.{Segment}
 use Rattle.sheets.specs.declared.Ramp.{Ramp}
-use Rattle.sheets.specs.Parts.{roadGlobals, segmentOf, rampOf}
+use Rattle.sheets.specs.Parts.{roadGlobals}
 use Rattle.sheets.specs.Good.{GoodSegment, GoodRoad, GoodPeriod}
 use Rattle.conditions.specs.declared.InForce.{InForce}
 use Rattle.conditions.specs.Values.{values-at}
-use Rattle.conditions.specs.Conditions.{partsAt, loweredBy, inForce, SheetInForce, None, Under, demandUnder, exitUnder, rampUnder, Conditions, segments, conditionsOf, inForceAt}
+use Rattle.conditions.specs.Conditions.{partsAt, loweredBy, inForce, SheetInForce, None, Under, demandUnder, exitUnder, rampUnder, Conditions, segments, inForceOf, conditionsOf, inForceAt}
 
+-- at a segment; 2,880,000 = 300 × 8 × 26,400 / 22 is the largest J
 pub record GoodPlace (here : InForce) : Type 0 where
   pub length : (1 ≤ here .length) × (here .length ≤ 26400)
   pub speed : here .speed ≤ 85
@@ -26,6 +27,7 @@ pub record GoodPlace (here : InForce) : Type 0 where
   pub offramp : here .offramp ≤ 10000
   pub demand : here .demand ≤ 10000
 
+-- at all segments
 pub record GoodConditions (c : Conditions) : Type 0 where
   pub segments : (1 ≤ c .segments) × (c .segments ≤ 64)
   pub demand : c .demand ≤ 20000
@@ -77,6 +79,7 @@ good-place g seg ramp a b d = record {
   lanes = b .lanes;
   capacity = b .capacity .1;
   lowered = lowered-most _ _;
+  -- any density of the road is at most 300
   jam = parts-most _ _ _ (omega (arith, a .jam .1, a .critical .1)) (b .lanes .1) (b .length .1);
   critical = critical-below-jam _ _ _ _ (a .jam .0) (a .critical .1) (b .lanes .0) (b .length .0);
   limit = omega (arith, b .onramp);
@@ -92,7 +95,7 @@ conditions-segments road sheet = refl
 
 pub in-force-at : (road : List ℕ) (sheet : SheetInForce) (i : ℕ) →
     i < segments road →
-    inForceAt (conditionsOf road sheet) i ≡ inForce (roadGlobals road) (segmentOf road i) (rampUnder sheet i)
+    inForceAt (conditionsOf road sheet) i ≡ inForceOf road sheet i
 unfolding conditionsOf
 in-force-at road sheet i h = values-at _ _ i _ h
 
@@ -112,5 +115,5 @@ good-conditions road sheet good fits = record {
   segments = good .segments;
   demand = flows-good road sheet fits .0;
   exit = flows-good road sheet fits .1;
-  place = λ i h. rw (values-at (λ i. inForce (roadGlobals road) (segmentOf road i) (rampUnder sheet i)) (segments road) i) (good-place _ _ _ (good-globals road good) (good .segment i h) (ramp-good road sheet fits i h));
+  place = λ i h. rw (values-at (inForceOf road sheet) (segments road) i) (good-place _ _ _ (good-globals road good) (good .segment i h) (ramp-good road sheet fits i h));
 }

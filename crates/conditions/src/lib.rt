@@ -12,8 +12,8 @@ ghost use Rattle.conditions.specs.Conditions.{partsAt, loweredBy, inForc
 ghost use Rattle.conditions.specs.Good.{GoodGlobals, GoodPlace};
 ghost use Rattle.conditions.specs.Row.{withInForce, conditionsIn};
 
-// What is in force at a segment: length, speed, lanes, capacity C, C behind a queue, J, Q, what the ramp lets in at most, off-ramp share,
-// off-ramp capacity F, and ramp demand.
+// What is in force at a segment: length L, speed V, lanes N, capacity C, C lowered behind a queue, the jam J, the critical parts Q, the limit of
+// the ramp (the lesser of R and the meter rate), off-ramp share s, off-ramp capacity F, and ramp demand.
 pub struct InForce {
     pub length: u64,
     pub speed: u64,
@@ -98,7 +98,8 @@ fn put_in_force(row: &mut [u32; 707], i: usize, here: InForce)
     put_number(row, at, 10, here.demand);
 }
 
-// Fills a row with the conditions of a road under a period sheet.
+// A row has 707 numbers: NS, the mainline demand and X, then eleven for each of up to 64 segments.
+// Fills one with the conditions of a road under a period sheet.
 pub fn fill(road: &[u32; 452], period: &[u32; 452], row: &mut [u32; 707])
     requires { ⌜ GoodRoad (now road) × GoodPeriod (now road) (now period) × (length (now row) ≡ 707) ⌝ }
     ensures { λ _. ⌜ conditionsIn (now (row .exit)) ≡ conditionsOf (now (road .entry)) (Under (now (period .entry))) ⌝ }

@@ -109,15 +109,19 @@ road-taken b r true y = refl
 road-taken b r false true = refl
 road-taken b r false false = road-of-row b r
 
-road-run : (b : Book) (k : ℕ) (x y z : Bool) → (if x then b else if y then b else if z then b else withSteps k b) .road ≡ b .road
-road-run b k true y z = refl
-road-run b k false true z = refl
-road-run b k false false true = refl
-road-run b k false false false = refl
+-- what the steps of a run leave as it was, a run does
+pub run-keeps : {A : Type 0} (field : Book → A) (b : Book) (k : ℕ) → field (withSteps k b) ≡ field b → field (after b (Run k)) ≡ field b
+run-keeps field b k e = by (outside 1 60 k) (eqb (b .taken) 0) (ltb (60 - b .made) k)
+  where
+    by : (x y z : Bool) → field (if x then b else if y then b else if z then b else withSteps k b) ≡ field b
+    by true y z = refl
+    by false true z = refl
+    by false false true = refl
+    by false false false = e
 
 road-after : (b : Book) (c : Call) → after b c .road ≡ b .road
 road-after b (Take bytes) = road-taken b (readPeriod (b .road) bytes) (running b) (full b)
-road-after b (Run k) = road-run b k (outside 1 60 k) (eqb (b .taken) 0) (ltb (60 - b .made) k)
+road-after b (Run k) = run-keeps (λ b. b .road) b k refl
 road-after b (Report i) = refl
 road-after b Totals = refl
 

@@ -10,34 +10,33 @@ use borrow.Author.Tests.{ne-eqb}
 use Rattle.numbers.specs.Choice.{if_then_else_}
 use Rattle.sheets.specs.Read.{Rows, ReadRow, RefusedAt, readPeriod}
 use Rattle.sheets.specs.Refusals.{period-refusal}
-use Rattle.conditions.specs.Conditions.{Conditions, inForceAt, SheetInForce, None, Under, conditionsOf, segments}
+use Rattle.conditions.specs.Conditions.{Conditions, inForceAt, SheetInForce, conditionsOf, segments}
 use Rattle.steps.specs.Step.{cellIn}
 use Rattle.letters.specs.Level.{levelOf}
-use Rattle.facility.specs.declared.Facility.{Facility}
 use Rattle.facility.specs.Sound.{sheeted, sound}
 use Rattle.facility.specs.Calls.{sheetBy, conditionsOn, freshOn, refused, done, unfinished, withSheet, takenBy, takeOf, stepOf, stepsOf, runOf, reported, noReport, levelAt, reportOf, totalsOf}
 use Rattle.facility.specs.Ledger.{Take, Run, Report, Totals, Refused, Ran, stateAfter, arrivedIn, leftIn, partstepsIn, stepFrom, more, Book, conditionsBy, opened, read, withRow, withSteps, reportIn, running, full, outside, answer, after}
 use Rattle.facility.specs.View.{rowIn, view}
 use Rattle.facility.specs.Answers.{takeSays, runSays, reportSays, totalsSay}
 use Rattle.facility.proofs.Sound.{sound-is, sheeted-by-some}
-use Rattle.facility.proofs.Trail.{Fine, Shown, unsheeted, sheeted-as}
+use Rattle.facility.proofs.Trail.{Fine, SheetFits, unsheeted, sheeted-as}
 
 pub view-opened : (road : List ℕ) → freshOn road ≡ view (opened road)
 unfolding freshOn arrivedIn leftIn partstepsIn
 view-opened road = refl
 
 -- the facility has the book's sheet in force
-shown-by : {road : List ℕ} {n : ℕ} {s : SheetInForce} → Shown road n s → sheetBy n (rowIn s) ≡ s
-shown-by unsheeted = refl
-shown-by (sheeted-as some e) = sheeted-by-some _ _ some
+fits-by : {road : List ℕ} {n : ℕ} {s : SheetInForce} → SheetFits road n s → sheetBy n (rowIn s) ≡ s
+fits-by unsheeted = refl
+fits-by (sheeted-as some e) = sheeted-by-some _ _ some
 
-shown-sheeted : {road : List ℕ} {n : ℕ} {s : SheetInForce} → Shown road n s → sheeted n road (rowIn s) ≡ true
+fits-sheeted : {road : List ℕ} {n : ℕ} {s : SheetInForce} → SheetFits road n s → sheeted n road (rowIn s) ≡ true
 unfolding sheeted
-shown-sheeted unsheeted = refl
-shown-sheeted (sheeted-as {n = n} some e) = rw (ne-eqb n 0 (λ z. omega arith)) e
+fits-sheeted unsheeted = refl
+fits-sheeted (sheeted-as {n = n} some e) = rw (ne-eqb n 0 (λ z. omega arith)) e
 
-pub in-force-view : (b : Book) → Shown (b .road) (b .taken) (b .sheet) → conditionsOn (view b) ≡ conditionsBy b
-in-force-view b s = ap (conditionsOf (b .road)) (shown-by s)
+pub in-force-view : (b : Book) → SheetFits (b .road) (b .taken) (b .sheet) → conditionsOn (view b) ≡ conditionsBy b
+in-force-view b s = ap (conditionsOf (b .road)) (fits-by s)
 
 -- a number that is not 0 is told from 0
 named : (e : ℕ) → 1 ≤ e → eqb e 0 ≡ false
@@ -48,7 +47,7 @@ sound-view b f = sound-is (view b) (record {
   road = f .road;
   few = f .few;
   short = f .short;
-  sheet = shown-sheeted (f .sheet);
+  sheet = fits-sheeted (f .sheet);
   bounds = rw (← (f .made)) (f .kept .bounds);
   sums = rw (← (f .made)) (f .kept .sums);
 })
@@ -61,7 +60,7 @@ one : (b : Book) → stepOf (view b) ≡ view (stepMore b (conditionsOn (view b)
 unfolding stepOf arrivedIn leftIn partstepsIn
 one b = refl
 
-pub steps-view : (b : Book) → Shown (b .road) (b .taken) (b .sheet) → (n : ℕ) → stepsOf n (view b) ≡ view (withSteps n b)
+pub steps-view : (b : Book) → SheetFits (b .road) (b .taken) (b .sheet) → (n : ℕ) → stepsOf n (view b) ≡ view (withSteps n b)
 unfolding stepsOf
 steps-view b s zero = rw add-zero
 steps-view b s (suc n) =
@@ -89,7 +88,7 @@ pub takes : (b : Book) (bytes : List ℕ) → Fine b
 unfolding takeOf unfinished
 takes b bytes f = rw (sound-view b f) (take-by b bytes (running b) (full b))
 
-run-by : (b : Book) → Shown (b .road) (b .taken) (b .sheet) → (k : ℕ) (x y z : Bool)
+run-by : (b : Book) → SheetFits (b .road) (b .taken) (b .sheet) → (k : ℕ) (x y z : Bool)
     → let r = (if x then refused (view b) 5 0 else if y then refused (view b) 10 0 else if z then refused (view b) 11 0 else done 0 (stepsOf k (view b))) in
     (runSays r ≡ (if x then Refused 5 0 else if y then Refused 10 0 else if z then Refused 11 0 else Ran))
     × (r .facility ≡ view (if x then b else if y then b else if z then b else withSteps k b))

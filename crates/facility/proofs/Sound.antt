@@ -18,19 +18,19 @@ use Rattle.facility.specs.Ready.{Summed, Sound}
 use Rattle.facility.specs.Sound.{stepsBy, counted, sheeted, heldIn, held, summed, sound}
 
 -- ---- the parts of the test
-pub held-bounded : (road : List ℕ) (t : ℕ) (state : State) → held (segments road) t state ≡ true → Bounded (segments road) t state
+pub held-bounded : (ns t : ℕ) (state : State) → held ns t state ≡ true → Bounded ns t state
 unfolding held heldIn
-held-bounded road t state e =
-    let b = both (all-below (λ i. heldIn t (cellIn state i)) (segments road)) (leb (state .origin) (20000 * t)) e in
-    let at : (i : ℕ) → i < segments road → (leb (cellIn state i .n) 2880000 ≡ true) × (leb (cellIn state i .q) (10000 * t) ≡ true) =
-    λ i h. both _ _ (all-at (λ i. heldIn t (cellIn state i)) (segments road) i (b .0) h) in
+held-bounded ns t state e =
+    let b = both (all-below (λ i. heldIn t (cellIn state i)) ns) (leb (state .origin) (20000 * t)) e in
+    let at : (i : ℕ) → i < ns → (leb (cellIn state i .n) 2880000 ≡ true) × (leb (cellIn state i .q) (10000 * t) ≡ true) =
+    λ i h. both _ _ (all-at (λ i. heldIn t (cellIn state i)) ns i (b .0) h) in
     record { cells = λ i h. record { parts = leb-true _ _ (at i h .0); queue = leb-true _ _ (at i h .1) }; origin = leb-true _ _ (b .1) }
 
-pub bounded-held : (road : List ℕ) (t : ℕ) (state : State) → Bounded (segments road) t state → held (segments road) t state ≡ true
+pub bounded-held : (ns t : ℕ) (state : State) → Bounded ns t state → held ns t state ≡ true
 unfolding held heldIn
-bounded-held road t state b =
-    let each : (i : ℕ) → i < segments road → heldIn t (cellIn state i) ≡ true = λ i h. rw (le-leb _ _ (b .cells i h .parts), le-leb _ _ (b .cells i h .queue)) in
-    rw (all-by (λ i. heldIn t (cellIn state i)) (segments road) each, le-leb _ _ (b .origin))
+bounded-held ns t state b =
+    let each : (i : ℕ) → i < ns → heldIn t (cellIn state i) ≡ true = λ i h. rw (le-leb _ _ (b .cells i h .parts), le-leb _ _ (b .cells i h .queue)) in
+    rw (all-by (λ i. heldIn t (cellIn state i)) ns each, le-leb _ _ (b .origin))
 
 pub summed-in : (t a l p : ℕ) → summed t a l p ≡ true → Summed t a l p
 unfolding summed
@@ -71,12 +71,12 @@ sheet-by : (road period : List ℕ) (taken : ℕ) (t : Bool) → eqb taken 0 ≡
 sheet-by road period taken true q e h = absurd (omega (arith, eqb-true taken 0 q))
 sheet-by road period taken false q e h = e
 
-pub in-force : (taken : ℕ) (road period : List ℕ) → sheeted taken road period ≡ true → 0 < taken → periodAllowed road period ≡ true
+pub sheet-allowed : (taken : ℕ) (road period : List ℕ) → sheeted taken road period ≡ true → 0 < taken → periodAllowed road period ≡ true
 unfolding sheeted
-in-force taken road period e h = sheet-by road period taken (eqb taken 0) refl e h
+sheet-allowed taken road period e h = sheet-by road period taken (eqb taken 0) refl e h
 
 pub good-sheet : (taken : ℕ) (road period : List ℕ) → GoodRoad road → sheeted taken road period ≡ true → 0 < taken → GoodPeriod road period
-good-sheet taken road period g e h = good-period road period g (in-force taken road period e h)
+good-sheet taken road period g e h = good-period road period g (sheet-allowed taken road period e h)
 
 -- once one is taken, it is in force
 pub sheeted-by-some : (n : ℕ) (period : List ℕ) → 0 < n → sheetBy n period ≡ Under period

@@ -21,11 +21,11 @@ use Rattle.steps.specs.Laws.{stepped-length}
 use Rattle.steps.specs.Bounds.{bounded-after, bounded-fresh, cell-fresh, arrived-most, left-most}
 use Rattle.steps.specs.Claims.{stepped-holds}
 use Rattle.facility.specs.Sound.{stepsBy}
-use Rattle.facility.specs.Ledger.{Call, Take, Run, Report, Totals, Trail, stateAfter, arrivedIn, leftIn, partstepsIn, stepFrom, more, Book, conditionsBy, opened, withRow, withSteps, running, full, outside, after, bookAfter}
+use Rattle.facility.specs.Ledger.{Call, Take, Run, Report, Totals, Trail, stateAfter, arrivedIn, leftIn, partstepsIn, stepFrom, more, Book, conditionsBy, opened, withRow, withSteps, running, full, outside, after}
 use Rattle.facility.specs.Claims.{Every, none, and, Chained, start, link, Right, Balanced, nothing, still}
 use Rattle.facility.specs.Ready.{Summed}
 
--- the invariant of a trail that leads to a road of so many segments
+-- the invariant of a trail on a road: its steps are right, and what it leaves is bounded and at most the jam, under any sheet
 pub record Kept (road : List ℕ) (t : Trail) : Type 0 where
   pub right : Every Right t
   pub chained : Chained t
@@ -40,6 +40,10 @@ pub record Kept (road : List ℕ) (t : Trail) : Type 0 where
 same-jam : (road : List ℕ) (s t : SheetInForce) (i : ℕ) → i < segments road → inForceAt (conditionsOf road s) i .jam ≡ inForceAt (conditionsOf road t) i .jam
 unfolding inForce
 same-jam road s t i h = rw (in-force-at road s i h, in-force-at road t i h)
+
+length-more : (c : Conditions) (n : ℕ) (t : Trail) → length (more c n t) ≡ length t + n
+length-more c zero t = omega arith
+length-more c (suc n) t = omega (arith, length-more c n t)
 
 module _ (road : List ℕ) (good : GoodRoad road) where
   -- a step more
@@ -74,25 +78,22 @@ module _ (road : List ℕ) (good : GoodRoad road) where
         };
       }
 
-  length-more : (c : Conditions) (n : ℕ) (t : Trail) → length (more c n t) ≡ length t + n
-  length-more c zero t = omega arith
-  length-more c (suc n) t = omega (arith, length-more c n t)
-
   pub kept-more : (sheet : SheetInForce) → GoodSheet road sheet → (n : ℕ) (t : Trail) → length t + n ≤ 5760 → Kept road t → Kept road (more (conditionsOf road sheet) n t)
   kept-more sheet fits zero t few k = k
   kept-more sheet fits (suc n) t few k =
       kept-step sheet fits (more (conditionsOf road sheet) n t) (omega (arith, length-more (conditionsOf road sheet) n t)) (kept-more sheet fits n t (omega arith) k)
 
--- the invariant of a book
-pub data Shown (road : List ℕ) : ℕ → SheetInForce → Type 0 where
-  unsheeted : Shown road 0 None
-  sheeted-as : {n : ℕ} {period : List ℕ} → 0 < n → periodAllowed road period ≡ true → Shown road n (Under period)
+-- before any sheet is taken there is none; then it is one of the road's
+pub data SheetFits (road : List ℕ) : ℕ → SheetInForce → Type 0 where
+  unsheeted : SheetFits road 0 None
+  sheeted-as : {n : ℕ} {period : List ℕ} → 0 < n → periodAllowed road period ≡ true → SheetFits road n (Under period)
 
+-- the invariant of a book
 pub record Fine (b : Book) : Type 0 where
   pub road : roadAllowed (b .road) ≡ true
   pub few : b .taken ≤ 96
   pub short : b .made ≤ 60
-  pub sheet : Shown (b .road) (b .taken) (b .sheet)
+  pub sheet : SheetFits (b .road) (b .taken) (b .sheet)
   pub made : length (b .trail) ≡ stepsBy (b .taken) (b .made)
   pub kept : Kept (b .road) (b .trail)
 
@@ -138,12 +139,12 @@ nonzero zero e = absurd (let z : _≡_ {A = ℕ} 0 1 = cc in omega arith)
 nonzero (suc n) e = omega arith
 
 -- the sheet in force is good
-pub good-shown : (b : Book) → Fine b → GoodSheet (b .road) (b .sheet)
-good-shown b f = shown-good (b .road) (good-road (b .road) (f .road)) (f .sheet)
+pub good-sheet-in : (b : Book) → Fine b → GoodSheet (b .road) (b .sheet)
+good-sheet-in b f = fits-good (b .road) (good-road (b .road) (f .road)) (f .sheet)
   where
-    shown-good : (road : List ℕ) → GoodRoad road → {n : ℕ} {s : SheetInForce} → Shown road n s → GoodSheet road s
-    shown-good road good unsheeted = none-sheet
-    shown-good road good (sheeted-as some e) = under (good-period road _ good e)
+    fits-good : (road : List ℕ) → GoodRoad road → {n : ℕ} {s : SheetInForce} → SheetFits road n s → GoodSheet road s
+    fits-good road good unsheeted = none-sheet
+    fits-good road good (sheeted-as some e) = under (good-period road _ good e)
 
 row-by : (b : Book) → Fine b → running b ≡ false → b .taken < 96 → (r : Rows)
     → ((row : List ℕ) (used : ℕ) → r ≡ ReadRow row used → periodAllowed (b .road) (padded row) ≡ true) → Fine (withRow b r)
@@ -179,8 +180,8 @@ run-by b k f false false false q r =
       few = f .few;
       short = omega (arith, f .short);
       sheet = f .sheet;
-      made = omega (arith, length-more (b .road) good (conditionsBy b) k (b .trail), f .made, f .short);
-      kept = kept-more (b .road) good (b .sheet) (good-shown b f) k (b .trail) (omega (arith, f .made, f .few, f .short)) (f .kept);
+      made = omega (arith, length-more (conditionsBy b) k (b .trail), f .made, f .short);
+      kept = kept-more (b .road) good (b .sheet) (good-sheet-in b f) k (b .trail) (omega (arith, f .made, f .few, f .short)) (f .kept);
     }
 
 pub fine-after : (b : Book) (c : Call) → Fine b → Fine (after b c)
@@ -188,7 +189,3 @@ fine-after b (Take bytes) f = take-by b bytes f (running b) (full b) refl refl
 fine-after b (Run k) f = run-by b k f (outside 1 60 k) (eqb (b .taken) 0) (ltb (60 - b .made) k) refl refl
 fine-after b (Report i) f = f
 fine-after b Totals f = f
-
-pub fine-book : (b : Book) (cs : List Call) → Fine b → Fine (bookAfter b cs)
-fine-book b [] f = f
-fine-book b (c ∷ cs) f = fine-book (after b c) cs (fine-after b c f)

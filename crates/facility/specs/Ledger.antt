@@ -29,7 +29,7 @@ pub record Figures : Type 0 where
   pub off : ℕ
   pub out : ℕ
 
--- their answers. A report: n, q and the last step's flows, and the letter. Totals: arrived, left, stored, part-steps
+-- the calls' answers. A report: its figures and the letter. Totals: arrived, left, stored, part-steps
 pub data Answer : Type 0 where
   Refused : (number offset : ℕ) → Answer
   Taken : (used : ℕ) → Answer
@@ -109,6 +109,7 @@ full b = leb 96 (b .taken)
 abbrev pub outside : (low high k : ℕ) → Bool
 outside low high k = ltb k low || ltb high k
 
+-- the figures of a cell
 abbrev pub told : Cell → Figures
 told cell = record { n = cell .n; q = cell .q; main = cell .main; ramp = cell .ramp; off = cell .off; out = cell .out }
 

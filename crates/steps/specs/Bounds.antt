@@ -1,5 +1,5 @@
 -- Bounds by which nothing overflows for 96 periods of 60 steps.
-use Prim.Native.Nat.{ℕ, zero, suc, _+_, _*_, _≤_, _<_}
+use Prim.Native.Nat.{ℕ, zero, suc, _+_, _≤_, _<_}
 use mathlib.Core.Path.{_≡_, refl}
 use native.Mathlib.Omega.{arith}
 use lib.ListN.{getD, replicate}
@@ -7,7 +7,7 @@ use Rattle.steps.specs.declared.Cell.{Cell}
 use Rattle.steps.specs.declared.State.{State}
 use Rattle.conditions.specs.Conditions.{Conditions, inForceAt}
 use Rattle.steps.specs.Place.{movedOf}
-use Rattle.steps.specs.Step.{noCell, freshState, cellIn, flowAt, mainFlowAt, leavingAt, nextCell, stepped, arrivedOf, leftOf}
+use Rattle.steps.specs.Step.{noCell, freshState, cellIn, mainFlowAt, nextCell, stepped, arrivedOf, leftOf}
 use Rattle.conditions.specs.Good.{GoodConditions}
 use Rattle.steps.specs.Held.{Held, Bounded}
 use Rattle.steps.specs.Laws.{split-at, exit-exact, held-at, off-most-at}

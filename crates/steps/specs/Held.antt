@@ -4,7 +4,7 @@ use Rattle.steps.specs.declared.Cell.{Cell}
 use Rattle.steps.specs.declared.State.{State}
 use Rattle.steps.specs.Step.{cellIn}
 
--- a segment and its ramp's queue after t steps
+-- a segment and its ramp's queue after t steps; 2,880,000 is the largest J
 pub record Held (t : ℕ) (cell : Cell) : Type 0 where
   pub parts : cell .n ≤ 2880000
   pub queue : cell .q ≤ 10000 * t

@@ -1,5 +1,5 @@
 -- The largest number up to a bound that passes a test: what is known of it.
-use Prim.Native.Nat.{ℕ, zero, suc, _+_, _≤_, min}
+use Prim.Native.Nat.{ℕ, zero, suc, _≤_, min}
 use mathlib.Core.Bool.{Bool, true, false}
 use mathlib.Core.Path.{_≡_, refl}
 use native.Mathlib.Omega.{arith}

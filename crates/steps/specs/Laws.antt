@@ -1,7 +1,6 @@
 -- The laws of one step: at one segment, from what is in force there and its cell; then along the road.
 use Prim.Native.Nat.{ℕ, zero, suc, _+_, _-_, _*_, _/_, _≤_, _<_, min, max}
 use mathlib.Core.Bool.{Bool, true, false}
-use mathlib.Core.List.{List}
 use mathlib.Core.Path.{_≡_}
 use native.Mathlib.Omega.{arith}
 use lib.ListN.{length}
@@ -9,13 +8,12 @@ use lib.Dec.{ltb}
 use borrow.Author.Tests.{lt-ltb, le-ltb}
 use Rattle.numbers.specs.Choice.{if_then_else_}
 use Rattle.steps.specs.declared.Cell.{Cell}
-use Rattle.steps.specs.declared.Flow.{Flow}
 use Rattle.conditions.specs.declared.InForce.{InForce}
 use Rattle.steps.specs.declared.State.{State}
 use Rattle.steps.specs.Rules.{off, through, entrance}
 use Rattle.conditions.specs.Conditions.{Conditions, inForceAt}
 use Rattle.steps.specs.Place.{splitOf, wishOf, mostOf, onwardOf, rampWishOf, entranceOf, supplyOf, inflowOf, leavingOf, movedOf}
-use Rattle.steps.specs.Step.{noCell, cellIn, mainWishAt, rampWishAt, supplyAt, flowAt, mainFlowAt, leavingAt, nextCell, stepped}
+use Rattle.steps.specs.Step.{noCell, cellIn, mainWishAt, flowAt, mainFlowAt, leavingAt, nextCell, stepped}
 use Rattle.steps.specs.Formulas.{entrance-most, main-flow-most, merge-exact, ramp-flow-most, ramp-flow-share-least, ramp-wish-most-queue, ramp-wish-most-limit, supply-most-entrance, supply-most-room, wish-most-capacity, wish-most-parts}
 use Rattle.steps.specs.Split.{GoodSplit, off-rises, split-whole, most-leaving-most, most-leaving-off, leaving-most, leaving-through}
 use Rattle.conditions.specs.Good.{GoodPlace, GoodConditions}
@@ -74,9 +72,9 @@ module _ (here : InForce) (cell : Cell) where
     held : (n f r y j : ℕ) → f + r ≤ j - n → n + f + r - y ≤ max n j
     held n f r y j h = omega arith
 
-    pub held-most : (ahead : ℕ) → movedOf here cell (inflowOf here cell m queued) ahead .n ≤ max (cell .n) (here .jam)
+    pub held-most : (y : ℕ) → movedOf here cell (inflowOf here cell m queued) y .n ≤ max (cell .n) (here .jam)
     unfolding movedOf
-    held-most ahead = held _ _ _ _ _ (omega (arith, inflow-exact, supply-room))
+    held-most y = held _ _ _ _ _ (omega (arith, inflow-exact, supply-room))
 
   -- ---- what it lets out, of the flow ahead
   pub most-parts : mostOf here cell ≤ cell .n

@@ -1,7 +1,7 @@
 -- One pass over the segments: what the calls at a segment ask, what holds before each segment, and what each turn adds.
 use Prim.Native.Nat.{ℕ, zero, suc, _+_, _-_, _≤_, _<_, min}
 use mathlib.Core.List.{List}
-use mathlib.Core.Path.{_≡_, refl, ap, _∙_}
+use mathlib.Core.Path.{_≡_, refl}
 use native.Mathlib.Numerals.{add-one}
 use native.Mathlib.Omega.{arith}
 use lib.ListN.{length, set}
@@ -126,7 +126,7 @@ module _ (c : Conditions) (state : State) (last waiting : ℕ) (cells : List Cel
     pub turned : (ahead : Flow) (after : Cell) (off : ℕ) →
         i < last →
         ahead ≡ inflowOf (inForceAt c (i + 1)) (cellIn state (i + 1)) (sent .wish) (sent .queued) →
-        after ≡ movedOf (inForceAt c i) (cellIn state i) flow (ahead .main) →
+        after ≡ movedOf (inForceAt c i) (cellIn state i) flow (leavingOf (inForceAt c i) (cellIn state i) (ahead .main)) →
         off ≡ after .off →
         Passing c state last waiting (set cells i after) ahead (left + off) (i + 1)
     unfolding mainWishAt queuedAt sentOf
@@ -150,7 +150,7 @@ module _ (c : Conditions) (state : State) (last waiting : ℕ) (cells : List Cel
         c .segments ≤ length (state .cells) →
         last ≤ i →
         exit ≡ min (sent .wish) (c .exit) →
-        after ≡ movedOf (inForceAt c i) (cellIn state i) flow exit →
+        after ≡ movedOf (inForceAt c i) (cellIn state i) flow (leavingOf (inForceAt c i) (cellIn state i) exit) →
         off ≡ after .off →
         _≡_ {A = Stepped}
         (record { state = record { cells = set cells i after; origin = waiting; exit = exit }; left = exit + (left + off) })

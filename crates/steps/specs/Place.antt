@@ -10,7 +10,7 @@ use Rattle.steps.specs.declared.Sent.{Sent}
 use Rattle.steps.specs.Rules.{wishToLeave, off, through, mostLeaving, rampWish, entrance, supply, rampFlow, mainFlow, leaving}
 
 module _ (here : InForce) (cell : Cell) where
-  -- what the split into off(y) and through(y) goes by
+  -- what the split into off(y) and through(y) goes by: what is in force and the cell, of which today the share s alone
   unfoldable pub splitOf : Split
   splitOf = record { share = here .share }
 
@@ -56,13 +56,13 @@ module _ (here : InForce) (cell : Cell) where
   unfoldable pub leavingOf : (ahead : ℕ) → ℕ
   leavingOf ahead = leaving splitOf mostOf ahead
 
-  -- after the step: n + f + r − y, q + ramp demand − r, and the step's flows
-  unfoldable pub movedOf : Flow → (ahead : ℕ) → Cell
-  movedOf flow ahead = record {
-    n = cell .n + flow .main + flow .ramp - leavingOf ahead;
+  -- after the step, by f and r, and y: n + f + r − y, q + ramp demand − r, and the step's flows
+  unfoldable pub movedOf : Flow → (leaving : ℕ) → Cell
+  movedOf flow y = record {
+    n = cell .n + flow .main + flow .ramp - y;
     q = cell .q + here .demand - flow .ramp;
     main = flow .main;
     ramp = flow .ramp;
-    off = off splitOf (leavingOf ahead);
-    out = leavingOf ahead;
+    off = off splitOf y;
+    out = y;
   }

@@ -1,4 +1,5 @@
--- Document 01, "One step": each rule as a formula of numbers, in the paper's order. Every difference is zero where it would be negative.
+-- Document 01, "One step": each rule as a formula, in the paper's order; J, Q and the lowered C stand in the conditions. Every difference is
+-- zero where it would be negative.
 use Prim.Native.Nat.{ℕ, zero, suc, _+_, _-_, _*_, _/_, min, max}
 use mathlib.Core.Bool.{Bool}
 use lib.Dec.{leb}
@@ -30,11 +31,11 @@ through s y = y - off s y
 unfoldable pub mostLeaving : Split → (offramp wish : ℕ) → ℕ
 mostLeaving s f d = largest (λ y. leb (off s y) f) d
 
--- W, ramp wish: the least of q + ramp demand, R and the meter rate, of which the limit is the lesser
+-- W, ramp wish: the lesser of q + ramp demand and the limit, which is the lesser of R and the meter rate
 unfoldable pub rampWish : (queue demand limit : ℕ) → ℕ
 rampWish q d l = min (q + d) l
 
--- E, entrance capacity: the lowered one behind a queue, else C
+-- E, entrance capacity: the lowered one, C × (100 − A) / 100, behind a queue, else C
 unfoldable pub entrance : (capacity lowered : ℕ) (queued : Bool) → ℕ
 entrance c l t = if t then l else c
 

@@ -57,7 +57,7 @@ module _ (c : Conditions) (state : State) where
 
   -- the cell after the step
   abbrev pub nextCell : ℕ → Cell
-  nextCell i = movedOf (inForceAt c i) (cellIn state i) (flowAt i) (mainFlowAt (suc i))
+  nextCell i = movedOf (inForceAt c i) (cellIn state i) (flowAt i) (leavingAt i)
 
 -- the list with each element at an index below the number replaced by the function's value at its index
 unfoldable pub replaced : {A : Type 0} → (ℕ → A) → ℕ → List A → List A

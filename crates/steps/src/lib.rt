@@ -13,7 +13,7 @@ ghost use Rattle.conditions.specs.Conditions.{inForceAt};
 ghost use Rattle.conditions.specs.Good.{GoodPlace, GoodConditions};
 ghost use Rattle.conditions.specs.Row.{conditionsIn};
 ghost use Rattle.steps.specs.Rules.{wishToLeave, off, through, mostLeaving, rampWish, entrance, supply, rampFlow, mainFlow, leaving};
-ghost use Rattle.steps.specs.Place.{splitOf, sentOf, supplyOf, inflowOf, movedOf};
+ghost use Rattle.steps.specs.Place.{splitOf, sentOf, supplyOf, inflowOf, leavingOf, movedOf};
 ghost use Rattle.steps.specs.Step.{freshState, stepped, arrivedOf, leftOf, storedOf};
 ghost use Rattle.steps.specs.Held.{Held, Bounded};
 ghost use Rattle.steps.specs.Split.{GoodSplit};
@@ -74,6 +74,7 @@ fn wish_to_leave(n: u64, capacity: u64, speed: u64, length: u64) -> u64
     (moving + (length - 1)) / length
 }
 
+// off(y), and what is left of y: through(y).
 fn off_of(split: Split, y: u64) -> u64
     requires { ⌜ GoodSplit split × (y ≤ 20000) ⌝ }
     ensures { λ r. ⌜ r ≡ off split y ⌝ }
@@ -224,7 +225,7 @@ fn sent_at(row: &[u32; 707], i: usize, cell: Cell) -> Sent
 // A segment's cell after the step, by the flows in, the most that may leave and the flow ahead.
 fn moved(here: InForce, cell: Cell, flow: Flow, most: u64, ahead: u64) -> Cell
     requires { ⌜ Movable here cell flow most ⌝ }
-    ensures { λ r. ⌜ r ≡ movedOf here cell flow ahead ⌝ }
+    ensures { λ r. ⌜ r ≡ movedOf here cell flow (leavingOf here cell ahead) ⌝ }
 {
     let split = split_of(here, cell);
     let y = leaving_of(split, most, ahead);
@@ -242,7 +243,7 @@ fn moved(here: InForce, cell: Cell, flow: Flow, most: u64, ahead: u64) -> Cell
 // The cell of segment i after the step.
 fn moved_at(row: &[u32; 707], i: usize, cell: Cell, flow: Flow, most: u64, ahead: u64) -> Cell
     requires { ⌜ (i < 64) × (i < conditionsIn (now row) .segments) × Movable (inForceAt (conditionsIn (now row)) i) cell flow most ⌝ }
-    ensures { λ r. ⌜ r ≡ movedOf (inForceAt (conditionsIn (now (row .entry))) i) cell flow ahead ⌝ }
+    ensures { λ r. ⌜ r ≡ movedOf (inForceAt (conditionsIn (now (row .entry))) i) cell flow (leavingOf (inForceAt (conditionsIn (now (row .entry))) i) cell ahead) ⌝ }
 {
     moved(in_force_at(row, i), cell, flow, most, ahead)
 }

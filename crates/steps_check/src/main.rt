@@ -84,6 +84,7 @@ fn run(row: &[u32; 707], road: &[u32; 452], count: u64)
     }
 }
 
+// Works the conditions out, and makes the steps.
 fn run_under(road: &[u32; 452], period: &[u32; 452], count: u64)
     requires { ⌜ GoodRoad (now road) × GoodPeriod (now road) (now period) × (count < 256) ⌝ }
 {

@@ -17,11 +17,12 @@ use Rattle.facility.specs.declared.Facility.{Facility}
 use Rattle.facility.specs.declared.Reply.{Reply}
 use Rattle.facility.specs.Sound.{sound}
 use Rattle.facility.specs.Calls.{laidBy, layOf, takeOf, runOf}
-use Rattle.facility.specs.Ledger.{outside, Take, Run, Answer, Refused, Taken, Ran, Reported, Summed, withSteps, Book, opened, read, withRow, running, full, answer, after}
+use Rattle.facility.specs.Ledger.{Take, Run, Answer, Refused, Taken, Ran, Reported, Summed, withSteps, Book, opened, read, withRow, running, full, answer, after}
 use Rattle.facility.specs.View.{view}
 use Rattle.facility.specs.Answers.{takeSays}
 use Rattle.facility.proofs.Trail.{Fine, fine-opened, fine-after}
 use Rattle.facility.proofs.OneCall.{view-opened, sound-view, takes, runs}
+use Rattle.facility.proofs.Lists.{run-keeps}
 use Rattle.study.specs.Forecast.{listed, refusedAt, afterSheet, whole, wholePeriod, periods, onRoad, forecastOf}
 use Rattle.study.specs.Shown.{shown}
 use Rattle.study.proofs.Within.{RowWithin, road-within, period-within}
@@ -65,16 +66,6 @@ begun-by b r used false false e = begun-row b r used e
 
 begun : (b : Book) (s : List ℕ) (used : ℕ) → answer b (Take s) ≡ Taken used → Begun b (after b (Take s))
 begun b s used e = begun-by b (readPeriod (b .road) s) used (running b) (full b) e
-
--- a run takes no sheet
-same-taken-by : (b c : Book) (x y z : Bool) → c .taken ≡ b .taken → (if x then b else if y then b else if z then b else c) .taken ≡ b .taken
-same-taken-by b c true y z h = refl
-same-taken-by b c false true z h = refl
-same-taken-by b c false false true h = refl
-same-taken-by b c false false false h = h
-
-same-taken : (b : Book) (k : ℕ) → after b (Run k) .taken ≡ b .taken
-same-taken b k = same-taken-by b (withSteps k b) (outside 1 60 k) (eqb (b .taken) 0) (ltb (60 - b .made) k) refl
 
 -- "runs every period whole": right after a sheet is taken, a run of the period's steps is never refused
 pub run-whole : (b : Book) (s : List ℕ) (used : ℕ) → answer b (Take s) ≡ Taken used → answer (after b (Take s)) (Run whole) ≡ Ran
@@ -210,7 +201,7 @@ module _ (bytes : List ℕ) (f : Facility) (at : ℕ) (p : Playing bytes f at) w
 
         taken-next : wholePeriod (p .book) (drop at bytes) .taken ≡ p .book .taken + 1
         unfolding Begun
-        taken-next = same-taken (after (p .book) (Take (drop at bytes))) whole ∙ begun (p .book) (drop at bytes) (r .used) taken .0
+        taken-next = run-keeps (λ b. b .taken) (after (p .book) (Take (drop at bytes))) whole refl ∙ begun (p .book) (drop at bytes) (r .used) taken .0
 
         pub one-taken : ran .facility .taken ≡ f .taken + 1
         one-taken =

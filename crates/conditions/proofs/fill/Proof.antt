@@ -1,6 +1,6 @@
 -- NS, the demand and X first, then the segments in turn.
 use Prim.Native.Nat.{_≤_, _-_}
-use mathlib.Core.Path.{_≡_, refl, ap}
+use mathlib.Core.Path.{refl, ap}
 use native.Mathlib.Omega.{arith}
 use Rattle.sheets.specs.declared.RoadGlobals.{RoadGlobals}
 use Rattle.sheets.specs.declared.PeriodGlobals.{PeriodGlobals}

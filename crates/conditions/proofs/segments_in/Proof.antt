@@ -1,5 +1,4 @@
 -- The first number.
-use mathlib.Core.Path.{refl}
 use borrow.Author.Needs.{needs}
 use Rattle.conditions.specs.Row.{conditionsIn}
 use Rattle.conditions.proofs.segments_in.Statement.{statement}

@@ -1,5 +1,4 @@
 -- The cell by what is in force there.
-use borrow.Author.Needs.{needs}
 use Rattle.steps.proofs.moved_at.Statement.{statement}
 use Rattle.steps.proofs.moved_at.Tie as tie
 
