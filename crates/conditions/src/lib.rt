@@ -100,7 +100,7 @@ fn put_in_force(row: &mut [u32; 707], i: usize, here: InForce)
 
 // A row has 707 numbers: NS, the mainline demand and X, then eleven for each of up to 64 segments.
 // Fills one with the conditions of a road under a period sheet.
-pub fn fill(road: &[u32; 452], period: &[u32; 452], row: &mut [u32; 707])
+fn fill(road: &[u32; 452], period: &[u32; 452], row: &mut [u32; 707])
     requires { ⌜ GoodRoad (now road) × GoodPeriod (now road) (now period) × (length (now row) ≡ 707) ⌝ }
     ensures { λ _. ⌜ conditionsIn (now (row .exit)) ≡ conditionsOf (now (road .entry)) (Under (now (period .entry))) ⌝ }
 {
@@ -116,6 +116,16 @@ pub fn fill(road: &[u32; 452], period: &[u32; 452], row: &mut [u32; 707])
         put_in_force(row, i, here);
         i += 1;
     }
+}
+
+// The conditions of a road under a period sheet, worked out into a row.
+pub fn work_out(road: &[u32; 452], period: &[u32; 452]) -> [u32; 707]
+    requires { ⌜ GoodRoad (now road) × GoodPeriod (now road) (now period) ⌝ }
+    ensures { λ r. ⌜ conditionsIn r ≡ conditionsOf (now (road .entry)) (Under (now (period .entry))) ⌝ }
+{
+    let mut row = [0u32; 707];
+    fill(road, period, &mut row);
+    row
 }
 
 // NS, the mainline demand and X that a row tells.

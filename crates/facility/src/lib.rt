@@ -258,8 +258,7 @@ fn make_steps(f: Facility, k: u32) -> Facility
 {
     let road = f.road;
     let period = f.period;
-    let mut row = [0u32; 707];
-    conditions::fill(&road, &period, &mut row);
+    let row = conditions::work_out(&road, &period);
     let arrives = steps::arrived(&row);
     let mut state = f.state;
     let mut arrived = f.arrived;

@@ -88,8 +88,7 @@ fn run(row: &[u32; 707], road: &[u32; 452], count: u64)
 fn run_under(road: &[u32; 452], period: &[u32; 452], count: u64)
     requires { ⌜ GoodRoad (now road) × GoodPeriod (now road) (now period) × (count < 256) ⌝ }
 {
-    let mut row = [0u32; 707];
-    conditions::fill(road, period, &mut row);
+    let row = conditions::work_out(road, period);
     run(&row, road, count);
 }
 
