@@ -1,6 +1,6 @@
 -- The loop that fills a row with the conditions of a road under a sheet.
 use Prim.Native.Nat.{ℕ, _+_, _≤_, _<_}
-use mathlib.Core.Path.{_≡_, _∙_}
+use mathlib.Core.Path.{_≡_, _∙_, subst⁻¹}
 use mathlib.Core.List.{List}
 use mathlib.Core.Logic.{⊎-elim}
 use native.Mathlib.Nat.{eq-or-lt-of-le}
@@ -13,33 +13,34 @@ use Rattle.sheets.specs.declared.Ramp.{Ramp}
 use Rattle.sheets.specs.Parts.{roadGlobals, segmentOf, periodGlobals, rampOf}
 use Rattle.sheets.specs.Good.{GoodRoad, GoodPeriod}
 use Rattle.conditions.specs.declared.InForce.{InForce}
-use Rattle.conditions.specs.Conditions.{inForce, segments, Under, inForceOf, demandUnder, exitUnder, rampUnder, conditionsOf}
+use Rattle.conditions.specs.Conditions.{inForce, shortcutsOf, segments, Under, inForceOf, demandUnder, exitUnder, rampUnder, conditionsOf}
 use Rattle.conditions.specs.Good.{GoodPlace, good-globals, good-place}
 use Rattle.conditions.specs.Values.{values-same}
-use Rattle.conditions.specs.Row.{inForceIn, conditionsIn, withInForce, with-in-force-at, with-in-force-before, with-in-force-earlier, with-in-force-length}
+use Rattle.conditions.specs.Row.{startOf, inForceIn, shortcutsIn, conditionsIn, HasShortcuts, withInForce, with-in-force-at, with-shortcuts-at, with-in-force-before, with-in-force-earlier, with-shortcuts-earlier, with-in-force-length}
 
 -- the numbers before the segments' and those of the segments before i are put
 pub record Filling (road period : List ℕ) (g : RoadGlobals) (ns : ℕ) (row : List ℕ) (i : ℕ) : Type 0 where
   pub within : i ≤ ns
   pub all : ns ≡ segments road
   pub globals-are : g ≡ roadGlobals road
-  pub long : length row ≡ 707
+  pub long : length row ≡ 835
   pub first : getD row 0 0 ≡ segments road
   pub second : getD row 1 0 ≡ periodGlobals period .demand
   pub third : getD row 2 0 ≡ periodGlobals period .exit
   pub filled : (j : ℕ) → j < i → inForceIn row j ≡ inForceOf road (Under period) j
+  pub short : (j : ℕ) → j < i → shortcutsIn row j ≡ shortcutsOf (inForceOf road (Under period) j)
 
 pub filling-start : (road period : List ℕ) (g : RoadGlobals) (ns a b d : ℕ) (row : List ℕ) →
     g ≡ roadGlobals road →
     ns ≡ g .segments →
-    length row ≡ 707 →
+    length row ≡ 835 →
     a ≡ segments road →
     b ≡ periodGlobals period .demand →
     d ≡ periodGlobals period .exit →
     Filling road period g ns (set (set (set row 0 a) 1 b) 2 d) 0
 filling-start road period g ns a b d row e n l p q r =
-    let l1 : length (set row 0 a) ≡ 707 = length-set row 0 a ∙ l in
-    let l2 : length (set (set row 0 a) 1 b) ≡ 707 = length-set (set row 0 a) 1 b ∙ l1 in
+    let l1 : length (set row 0 a) ≡ 835 = length-set row 0 a ∙ l in
+    let l2 : length (set (set row 0 a) 1 b) ≡ 835 = length-set (set row 0 a) 1 b ∙ l1 in
     record {
       within = omega arith;
       all = rw (n, e);
@@ -49,6 +50,7 @@ filling-start road period g ns a b d row e n l p q r =
       second = getD-set-other (set (set row 0 a) 1 b) 2 1 d 0 (λ z. omega arith) ∙ getD-set-same (set row 0 a) 1 b 0 (omega arith) ∙ q;
       third = getD-set-same (set (set row 0 a) 1 b) 2 d 0 (omega arith) ∙ r;
       filled = λ j h. absurd (omega arith);
+      short = λ j h. absurd (omega arith);
     }
 
 module _ (road period : List ℕ) (g : RoadGlobals) (ns i : ℕ) (row : List ℕ) (at : Filling road period g ns row i) where
@@ -63,12 +65,13 @@ module _ (road period : List ℕ) (g : RoadGlobals) (ns i : ℕ) (row : List ℕ
         let l : i < segments road = omega (arith, at .all) in
         (omega (arith, at .all, good .segments .1), rw is-in-force (good-place _ _ _ (good-globals road good) (good .segment i l) (sheet .ramp i l .0)))
 
-    same-or-earlier : (j : ℕ) → j < i + 1 → inForceIn (withInForce row i here) j ≡ inForceOf road (Under period) j
-    same-or-earlier j l =
-        ⊎-elim
-        (λ (q : j ≡ i). rw q (with-in-force-at row i here (omega (arith, at .long, filling-fits .0)) ∙ is-in-force))
-        (λ (q : j < i). with-in-force-earlier row i j here q ∙ at .filled j q)
-        (eq-or-lt-of-le {n = j} {m = i} (omega arith))
+    room : startOf i + 12 < length row
+    room = omega (arith, at .long, filling-fits .0)
+
+    -- what holds of the segment just put and of those before it holds of all
+    same-or-earlier : (P : ℕ → Type 0) → P i → ((j : ℕ) → j < i → P j) → (j : ℕ) → j < i + 1 → P j
+    same-or-earlier P here earlier j l =
+        ⊎-elim (λ (q : j ≡ i). subst⁻¹ P q here) (λ (q : j < i). earlier j q) (eq-or-lt-of-le {n = j} {m = i} (omega arith))
 
     pub filling-more : Filling road period g ns (withInForce row i here) (i + 1)
     filling-more = record {
@@ -76,10 +79,11 @@ module _ (road period : List ℕ) (g : RoadGlobals) (ns i : ℕ) (row : List ℕ
       all = at .all;
       globals-are = at .globals-are;
       long = with-in-force-length row i here ∙ at .long;
-      first = with-in-force-before row i 0 here (omega arith) ∙ at .first;
-      second = with-in-force-before row i 1 here (omega arith) ∙ at .second;
-      third = with-in-force-before row i 2 here (omega arith) ∙ at .third;
-      filled = same-or-earlier;
+      first = with-in-force-before row i here 0 (omega arith) ∙ at .first;
+      second = with-in-force-before row i here 1 (omega arith) ∙ at .second;
+      third = with-in-force-before row i here 2 (omega arith) ∙ at .third;
+      filled = same-or-earlier (λ j. inForceIn (withInForce row i here) j ≡ inForceOf road (Under period) j) (with-in-force-at row i here room ∙ is-in-force) (λ j q. with-in-force-earlier row i here j q ∙ at .filled j q);
+      short = same-or-earlier (λ j. shortcutsIn (withInForce row i here) j ≡ shortcutsOf (inForceOf road (Under period) j)) (rw (← is-in-force) (with-shortcuts-at row i here room)) (λ j q. with-shortcuts-earlier row i here j q ∙ at .short j q);
     }
 
   pub filling-done : ns ≤ i → conditionsIn row ≡ conditionsOf road (Under period)
@@ -87,3 +91,9 @@ module _ (road period : List ℕ) (g : RoadGlobals) (ns i : ℕ) (row : List ℕ
   filling-done h =
       let n : i ≡ segments road = omega (arith, at .within, at .all) in
       rw (at .second, at .third, at .first, values-same (inForceIn row) (inForceOf road (Under period)) (segments road) (λ j l. at .filled j (omega arith)))
+
+  pub shortcuts-done : ns ≤ i → HasShortcuts row
+  unfolding conditionsIn
+  shortcuts-done h j l =
+      let n : j < i = omega (arith, at .within, at .all, at .first) in
+      at .short j n ∙ rw (at .filled j n)

@@ -1,4 +1,5 @@
 pub mod Values
+pub mod Puts
 pub mod Conditions
 pub mod Row
 pub mod Good

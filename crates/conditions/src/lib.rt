@@ -1,6 +1,5 @@
 // What is in force while a step is made, worked out once from a road and a period sheet into a row of numbers.
 use arithmetic::least;
-use arithmetic::wide;
 use sheets::Ramp;
 use sheets::RoadGlobals;
 use sheets::Segment;
@@ -8,28 +7,34 @@ ghost use mathlib.Core.Path.{_≡_};
 ghost use Prim.Native.Nat.{_+_, _≤_, _<_};
 ghost use lib.ListN.{length, getD, set};
 ghost use Rattle.sheets.specs.Good.{GoodSegment, GoodRoad, GoodPeriod};
-ghost use Rattle.conditions.specs.Conditions.{partsAt, loweredBy, inForce, Under, conditionsOf, inForceAt};
+ghost use Rattle.conditions.specs.Conditions.{partsAt, loweredBy, inForce, easyBelow, shortcutsOf, Under, conditionsOf, inForceAt};
 ghost use Rattle.conditions.specs.Good.{GoodGlobals, GoodPlace};
-ghost use Rattle.conditions.specs.Row.{withInForce, conditionsIn};
+ghost use Rattle.conditions.specs.Row.{withInForce, conditionsIn, HasShortcuts};
 
 // What is in force at a segment: length L, speed V, lanes N, capacity C, C lowered behind a queue, the jam J, the critical parts Q, the limit of
 // the ramp (the lesser of R and the meter rate), off-ramp share s, off-ramp capacity F, and ramp demand.
 pub struct InForce {
-    pub length: u64,
-    pub speed: u64,
-    pub lanes: u64,
-    pub capacity: u64,
-    pub lowered: u64,
-    pub jam: u64,
-    pub critical: u64,
-    pub limit: u64,
-    pub share: u64,
-    pub offramp: u64,
-    pub demand: u64,
+    pub length: u32,
+    pub speed: u32,
+    pub lanes: u32,
+    pub capacity: u32,
+    pub lowered: u32,
+    pub jam: u32,
+    pub critical: u32,
+    pub limit: u32,
+    pub share: u32,
+    pub offramp: u32,
+    pub demand: u32,
+}
+
+// Two numbers that spare a step some work: the reach 22 × V, and the number of parts below which P is E.
+pub struct Shortcuts {
+    pub reach: u32,
+    pub easy: u32,
 }
 
 // J by the jam density, Q by the density at capacity.
-fn parts_at(density: u64, lanes: u64, length: u64) -> u64
+fn parts_at(density: u32, lanes: u32, length: u32) -> u32
     requires { ⌜ (density ≤ 300) × (lanes ≤ 8) × (length ≤ 26400) ⌝ }
     ensures { λ r. ⌜ r ≡ partsAt density lanes length ⌝ }
 {
@@ -37,7 +42,7 @@ fn parts_at(density: u64, lanes: u64, length: u64) -> u64
 }
 
 // C behind a queue.
-fn lowered_by(drop: u64, capacity: u64) -> u64
+fn lowered_by(drop: u32, capacity: u32) -> u32
     requires { ⌜ (drop ≤ 50) × (capacity ≤ 20000) ⌝ }
     ensures { λ r. ⌜ r ≡ loweredBy drop capacity ⌝ }
 {
@@ -64,27 +69,49 @@ fn in_force(g: RoadGlobals, seg: Segment, ramp: Ramp) -> InForce
     }
 }
 
+// With fewer parts than this neither the room nor the quotient is below C, and P is E.
+fn easy_below(jam: u32, critical: u32, capacity: u32) -> u32
+    requires { ⌜ jam ≤ 2880000 ⌝ }
+    ensures { λ r. ⌜ r ≡ easyBelow jam critical capacity ⌝ }
+{
+    if jam < capacity {
+        return 0;
+    }
+    least(critical, jam - capacity) + 1
+}
+
+fn shortcuts_of(here: InForce) -> Shortcuts
+    requires { ⌜ GoodPlace here ⌝ }
+    ensures { λ r. ⌜ r ≡ shortcutsOf here ⌝ }
+{
+    Shortcuts {
+        reach: 22 * here.speed,
+        easy: easy_below(here.jam, here.critical, here.capacity),
+    }
+}
+
 // The number of a row at a place, and so many further on.
-fn number_in(row: &[u32; 707], at: usize, j: usize) -> u64
-    requires { ⌜ at + j < 707 ⌝ }
+fn number_in(row: &[u32; 835], at: usize, j: usize) -> u32
+    requires { ⌜ at + j < 835 ⌝ }
     ensures { λ r. ⌜ r ≡ getD (now (row .entry)) (at + j) 0 ⌝ }
 {
-    wide(row[at + j])
+    row[at + j]
 }
 
-fn put_number(row: &mut [u32; 707], at: usize, j: usize, value: u64)
-    requires { ⌜ (at + j < 707) × (value ≤ 2880000) ⌝ }
+fn put_number(row: &mut [u32; 835], at: usize, j: usize, value: u32)
+    requires { ⌜ at + j < 835 ⌝ }
     ensures { λ _. ⌜ now (row .exit) ≡ set (now (row .entry)) (at + j) value ⌝ }
 {
-    row[at + j] = value as u32;
+    row[at + j] = value;
 }
 
-// Puts what is in force at segment i into a row.
-fn put_in_force(row: &mut [u32; 707], i: usize, here: InForce)
+// Puts what is in force at segment i into a row, and its shortcuts.
+fn put_in_force(row: &mut [u32; 835], i: usize, here: InForce)
     requires { ⌜ (i < 64) × GoodPlace here ⌝ }
     ensures { λ _. ⌜ now (row .exit) ≡ withInForce (now (row .entry)) i here ⌝ }
 {
-    let at = 3 + 11 * i;
+    let at = 3 + 13 * i;
+    let short = shortcuts_of(here);
     put_number(row, at, 0, here.length);
     put_number(row, at, 1, here.speed);
     put_number(row, at, 2, here.lanes);
@@ -96,13 +123,15 @@ fn put_in_force(row: &mut [u32; 707], i: usize, here: InForce)
     put_number(row, at, 8, here.share);
     put_number(row, at, 9, here.offramp);
     put_number(row, at, 10, here.demand);
+    put_number(row, at, 11, short.reach);
+    put_number(row, at, 12, short.easy);
 }
 
-// A row has 707 numbers: NS, the mainline demand and X, then eleven for each of up to 64 segments.
+// A row has 835 numbers: NS, the mainline demand and X, then thirteen for each of up to 64 segments.
 // Fills one with the conditions of a road under a period sheet.
-fn fill(road: &[u32; 452], period: &[u32; 452], row: &mut [u32; 707])
-    requires { ⌜ GoodRoad (now road) × GoodPeriod (now road) (now period) × (length (now row) ≡ 707) ⌝ }
-    ensures { λ _. ⌜ conditionsIn (now (row .exit)) ≡ conditionsOf (now (road .entry)) (Under (now (period .entry))) ⌝ }
+fn fill(road: &[u32; 452], period: &[u32; 452], row: &mut [u32; 835])
+    requires { ⌜ GoodRoad (now road) × GoodPeriod (now road) (now period) × (length (now row) ≡ 835) ⌝ }
+    ensures { λ _. ⌜ (conditionsIn (now (row .exit)) ≡ conditionsOf (now (road .entry)) (Under (now (period .entry)))) × HasShortcuts (now (row .exit)) ⌝ }
 {
     let g = sheets::globals_of_road(road);
     let sheet = sheets::globals_of_period(period);
@@ -119,40 +148,40 @@ fn fill(road: &[u32; 452], period: &[u32; 452], row: &mut [u32; 707])
 }
 
 // The conditions of a road under a period sheet, worked out into a row.
-pub fn work_out(road: &[u32; 452], period: &[u32; 452]) -> [u32; 707]
+pub fn work_out(road: &[u32; 452], period: &[u32; 452]) -> [u32; 835]
     requires { ⌜ GoodRoad (now road) × GoodPeriod (now road) (now period) ⌝ }
-    ensures { λ r. ⌜ conditionsIn r ≡ conditionsOf (now (road .entry)) (Under (now (period .entry))) ⌝ }
+    ensures { λ r. ⌜ (conditionsIn r ≡ conditionsOf (now (road .entry)) (Under (now (period .entry)))) × HasShortcuts r ⌝ }
 {
-    let mut row = [0u32; 707];
+    let mut row = [0u32; 835];
     fill(road, period, &mut row);
     row
 }
 
 // NS, the mainline demand and X that a row tells.
-pub fn segments_in(row: &[u32; 707]) -> usize
+pub fn segments_in(row: &[u32; 835]) -> usize
     ensures { λ r. ⌜ r ≡ conditionsIn (now (row .entry)) .segments ⌝ }
 {
     number_in(row, 0, 0) as usize
 }
 
-pub fn demand_in(row: &[u32; 707]) -> u64
+pub fn demand_in(row: &[u32; 835]) -> u32
     ensures { λ r. ⌜ r ≡ conditionsIn (now (row .entry)) .demand ⌝ }
 {
     number_in(row, 0, 1)
 }
 
-pub fn exit_in(row: &[u32; 707]) -> u64
+pub fn exit_in(row: &[u32; 835]) -> u32
     ensures { λ r. ⌜ r ≡ conditionsIn (now (row .entry)) .exit ⌝ }
 {
     number_in(row, 0, 2)
 }
 
 // What is in force at segment i.
-pub fn in_force_at(row: &[u32; 707], i: usize) -> InForce
+pub fn in_force_at(row: &[u32; 835], i: usize) -> InForce
     requires { ⌜ (i < 64) × (i < conditionsIn (now row) .segments) ⌝ }
     ensures { λ r. ⌜ r ≡ inForceAt (conditionsIn (now (row .entry))) i ⌝ }
 {
-    let at = 3 + 11 * i;
+    let at = 3 + 13 * i;
     InForce {
         length: number_in(row, at, 0),
         speed: number_in(row, at, 1),
@@ -165,5 +194,17 @@ pub fn in_force_at(row: &[u32; 707], i: usize) -> InForce
         share: number_in(row, at, 8),
         offramp: number_in(row, at, 9),
         demand: number_in(row, at, 10),
+    }
+}
+
+// Its shortcuts.
+pub fn shortcuts_at(row: &[u32; 835], i: usize) -> Shortcuts
+    requires { ⌜ (i < 64) × (i < conditionsIn (now row) .segments) × HasShortcuts (now row) ⌝ }
+    ensures { λ r. ⌜ r ≡ shortcutsOf (inForceAt (conditionsIn (now (row .entry))) i) ⌝ }
+{
+    let at = 3 + 13 * i;
+    Shortcuts {
+        reach: number_in(row, at, 11),
+        easy: number_in(row, at, 12),
     }
 }

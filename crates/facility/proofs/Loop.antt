@@ -6,7 +6,6 @@ use native.Mathlib.Numerals.{add-one}
 use native.Mathlib.Nat.{add-zero}
 use Rattle.sheets.specs.Good.{GoodRoad, GoodPeriod, good-road}
 use Rattle.steps.specs.declared.State.{State}
-use Rattle.steps.specs.declared.Stepped.{Stepped}
 use Rattle.conditions.specs.Conditions.{Conditions, Under, conditionsOf, segments}
 use Rattle.steps.specs.Step.{stepped, arrivedOf, leftOf}
 use Rattle.conditions.specs.Good.{GoodConditions, under, good-conditions}
@@ -67,14 +66,14 @@ module _ (f : Facility) (k : ℕ) (ready : Ready f k) where
   unfolding stepsBy
   one-more i h = omega (arith, ready .some)
 
-  pub turn-start : Turn f k 0 (f .state) (f .arrived) (f .left) (f .partsteps)
+  pub turn-start : (state : State) → state ≡ f .state → Turn f k 0 state (f .arrived) (f .left) (f .partsteps)
   unfolding stepsOf
-  turn-start = record {
+  turn-start state e = rw e (record {
     made = rw add-zero;
     most = omega arith;
     bounds = rw add-zero (ready .is .bounds);
     sums = rw add-zero (ready .is .sums);
-  }
+  })
 
   module _ (i : ℕ) (state : State) (arrived left partsteps : ℕ) (t : Turn f k i state arrived left partsteps) (h : i < k) where
     -- what the step asks
@@ -124,9 +123,9 @@ module _ (f : Facility) (k : ℕ) (ready : Ready f k) where
         }
 
     -- the same of what the calls gave
-    pub turn-moved : (s : Stepped) → s ≡ record { state = stepped (conditionsOn f) state; left = goes } → (a d : ℕ) → a ≡ comes → d ≡ arrived + a - (left + s .left)
-        → Turn f k (i + 1) (s .state) (arrived + a) (left + s .left) (partsteps + d)
-    turn-moved s es a d ea ed = rw (ed, ea, es) turn-again
+    pub turn-moved : (next : State) (l a d : ℕ) → next ≡ stepped (conditionsOn f) state → l ≡ goes → a ≡ comes → d ≡ arrived + a - (left + l)
+        → Turn f k (i + 1) next (arrived + a) (left + l) (partsteps + d)
+    turn-moved next l a d en el ea ed = rw (ed, ea, el, en) turn-again
 
   pub turn-end : (i : ℕ) (state : State) (arrived left partsteps : ℕ) → Turn f k i state arrived left partsteps → k ≤ i
       → at-turn f k state arrived left partsteps ≡ stepsOf k f

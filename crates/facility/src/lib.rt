@@ -1,9 +1,11 @@
 // The calls on a facility: a road with its state, its sheet in force and its sums, by value.
 use arithmetic::less;
+use arithmetic::less_wide;
 use arithmetic::wide;
 use letters::Level;
 use numbers::Written;
 use steps::Cell;
+use steps::Ends;
 use steps::State;
 ghost use mathlib.Core.Path.{_≡_};
 ghost use Prim.Native.Nat.{_≤_, _<_};
@@ -59,11 +61,11 @@ pub struct Sums {
 }
 
 // The steps made so far.
-fn steps_by(taken: u32, made: u32) -> u64
+fn steps_by(taken: u32, made: u32) -> u32
     requires { ⌜ (taken ≤ 96) × (made ≤ 60) ⌝ }
     ensures { λ r. ⌜ (r ≡ stepsBy taken made) × (r ≤ 5760) ⌝ }
 {
-    less(60 * wide(taken) + wide(made), 60)
+    less(60 * taken + made, 60)
 }
 
 fn is_counted(taken: u32, made: u32) -> bool
@@ -72,8 +74,8 @@ fn is_counted(taken: u32, made: u32) -> bool
     (taken <= 96) & (made <= 60)
 }
 
-fn is_sheeted(taken: u32, road: [u32; 452], period: [u32; 452]) -> bool
-    ensures { λ r. ⌜ r ≡ sheeted taken road period ⌝ }
+fn is_sheeted<'a>(taken: u32, road: &'a [u32; 452], period: &'a [u32; 452]) -> bool
+    ensures { λ r. ⌜ r ≡ sheeted taken (now (road .entry)) (now (period .entry)) ⌝ }
 {
     if taken == 0 {
         return true;
@@ -81,14 +83,14 @@ fn is_sheeted(taken: u32, road: [u32; 452], period: [u32; 452]) -> bool
     sheets::is_period(road, period)
 }
 
-fn is_held_in(t: u64, cell: Cell) -> bool
+fn is_held_in(t: u32, cell: Cell) -> bool
     requires { ⌜ t ≤ 5760 ⌝ }
     ensures { λ r. ⌜ r ≡ heldIn t cell ⌝ }
 {
-    (cell.n <= 2880000) & (wide(cell.q) <= 10000 * t)
+    (cell.n <= 2880000) & (cell.q <= 10000 * t)
 }
 
-fn is_held(ns: usize, t: u64, state: State) -> bool
+fn is_held(ns: usize, t: u32, state: State) -> bool
     requires { ⌜ (ns ≤ 64) × (t ≤ 5760) ⌝ }
     ensures { λ r. ⌜ r ≡ held ns t state ⌝ }
 {
@@ -98,7 +100,7 @@ fn is_held(ns: usize, t: u64, state: State) -> bool
         ok = ok & is_held_in(t, state.cells[i]);
         i += 1;
     }
-    ok & (wide(state.origin) <= 20000 * t)
+    ok & (state.origin <= 20000 * t)
 }
 
 fn is_summed(t: u64, arrived: u64, left: u64, partsteps: u64) -> bool
@@ -112,23 +114,20 @@ fn is_summed(t: u64, arrived: u64, left: u64, partsteps: u64) -> bool
 fn is_sound(f: Facility) -> bool
     ensures { λ r. ⌜ r ≡ sound f ⌝ }
 {
-    let road = f.road;
-    let period = f.period;
-    let state = f.state;
-    if !sheets::is_road(road) {
+    if !sheets::is_road(&f.road) {
         return false;
     }
     if !is_counted(f.taken, f.made) {
         return false;
     }
-    if !is_sheeted(f.taken, road, period) {
+    if !is_sheeted(f.taken, &f.road, &f.period) {
         return false;
     }
     let t = steps_by(f.taken, f.made);
-    if !is_held(road[0] as usize, t, state) {
+    if !is_held(f.road[0] as usize, t, f.state) {
         return false;
     }
-    is_summed(t, f.arrived, f.left, f.partsteps)
+    is_summed(wide(t), f.arrived, f.left, f.partsteps)
 }
 
 // A road just laid.
@@ -251,35 +250,40 @@ pub fn take(f: Facility, bytes: &[u8]) -> Reply
     take_sheet(f, bytes)
 }
 
-// Makes k steps under the sheet in force.
+// Makes k steps under the sheet in force, in place in a row of cells.
 fn make_steps(f: Facility, k: u32) -> Facility
     requires { ⌜ Ready f k ⌝ }
     ensures { λ r. ⌜ r ≡ stepsOf k f ⌝ }
 {
     let road = f.road;
     let period = f.period;
+    let state = f.state;
     let row = conditions::work_out(&road, &period);
-    let arrives = steps::arrived(&row);
-    let mut state = f.state;
+    let arrives = wide(steps::arrived(&row));
+    let mut cells = steps::cells_of(state);
+    let mut ends = Ends {
+        origin: state.origin,
+        exit: state.exit,
+    };
     let mut arrived = f.arrived;
     let mut left = f.left;
     let mut partsteps = f.partsteps;
     let mut i: u32 = 0;
     while i < k {
-        let next = steps::step(&row, state);
-        let after = next.state;
-        state = after;
+        let next = steps::step(&row, &mut cells, ends);
+        ends = next.ends;
         arrived += arrives;
-        left += next.left;
-        partsteps += less(arrived, left);
+        left += wide(next.left);
+        partsteps += less_wide(arrived, left);
         i += 1;
     }
+    let after = steps::state_of(&cells, ends);
     Facility {
         road,
         period,
         taken: f.taken,
         made: f.made + k,
-        state,
+        state: after,
         arrived,
         left,
         partsteps,
@@ -339,7 +343,7 @@ fn report_at(f: Facility, i: usize) -> SegmentReport
     let state = f.state;
     let cell = state.cells[i];
     let seg = sheets::segment_at(&road, i);
-    let level = letters::level_of(cell.n, seg.length as u32, seg.lanes as u32);
+    let level = letters::level_of(cell.n, seg.length, seg.lanes);
     SegmentReport {
         refusal: 0,
         n: cell.n,

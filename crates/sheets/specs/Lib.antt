@@ -4,6 +4,7 @@ pub mod Write
 pub mod Parts
 pub mod Allowed
 pub mod Ranges
+pub mod Groups
 pub mod Turns
 pub mod Round
 pub mod Refusals

@@ -3,13 +3,13 @@ use numbers::Number;
 use numbers::Range;
 use numbers::Written;
 ghost use mathlib.Core.Path.{_≡_};
-ghost use Prim.Native.Nat.{_≤_, _<_, min};
+ghost use Prim.Native.Nat.{_+_, _*_, _≤_, _<_, min};
 ghost use mathlib.Core.List.{_++_};
 ghost use lib.ListN.{length, take, drop, getD};
 ghost use Rattle.numbers.specs.Writing.{writing, writeAnswer, writeInto};
-ghost use Rattle.sheets.specs.Layout.{segmentTable, roadTable, roadRange, periodRange, rangeOf, countOf, noRange};
+ghost use Rattle.sheets.specs.Layout.{_to_, segmentTable, roadTable, roadRange, periodRange, rangeOf, countOf, noRange};
 ghost use Rattle.sheets.specs.Read.{readRow, readRoad, readPeriod, sheetOf};
-ghost use Rattle.sheets.specs.Allowed.{within, allowed, roadAllowed, periodAllowed};
+ghost use Rattle.sheets.specs.Allowed.{within, all-below, roadAllowed, periodAllowed};
 ghost use Rattle.sheets.specs.Parts.{roadGlobals, segmentOf, periodGlobals, rampOf};
 ghost use Rattle.sheets.specs.Write.{rowBytes, roadRow, periodRow};
 
@@ -141,6 +141,17 @@ fn least(a: u32, b: u32) -> u32
     if a < b { a } else { b }
 }
 
+// The range of a ramp's demand and of its meter rate.
+fn ramp_range() -> Range
+    ensures { λ r. ⌜ r ≡ 0 to 10000 ⌝ }
+{
+    Range {
+        low: 0,
+        high: 10000,
+        refusal: 4,
+    }
+}
+
 fn period_range(ns: u32, k: usize) -> Range
     ensures { λ r. ⌜ r ≡ periodRange ns k ⌝ }
 {
@@ -158,11 +169,7 @@ fn period_range(ns: u32, k: usize) -> Range
             refusal: 4,
         };
     }
-    Range {
-        low: 0,
-        high: 10000,
-        refusal: 4,
-    }
+    ramp_range()
 }
 
 // The range of the place k of a layout.
@@ -236,38 +243,84 @@ pub fn read_period(bytes: &[u8], road: [u32; 452]) -> Sheet
     read_row(bytes, Layout::Period(road[0]))
 }
 
-fn is_within(range: Range, value: u32) -> bool
-    ensures { λ r. ⌜ r ≡ within range value ⌝ }
+// Whether the number at the place k of the row is in the range.
+fn is_within(range: Range, row: &[u32; 452], k: usize) -> bool
+    requires { ⌜ k < 452 ⌝ }
+    ensures { λ r. ⌜ r ≡ within range (getD (now (row .entry)) k 0) ⌝ }
 {
+    let value = row[k];
     (range.low <= value) & (value <= range.high)
 }
 
-// Whether each number of the row is in the range of its place.
-fn is_allowed(layout: Layout, row: [u32; 452]) -> bool
-    ensures { λ r. ⌜ r ≡ allowed layout row ⌝ }
+// Whether the first four numbers of a road are in their ranges.
+fn is_start(row: &[u32; 452]) -> bool
+    ensures { λ r. ⌜ r ≡ all-below (λ k. within (getD roadTable k noRange) (getD (now (row .entry)) k 0)) 4 ⌝ }
 {
-    let n = count(layout);
-    let mut ok = true;
-    let mut k: usize = 0;
-    while k < n {
-        ok = ok & is_within(range_at(layout, k), row[k]);
-        k += 1;
+    is_within(road_start(0), row, 0)
+        & is_within(road_start(1), row, 1)
+        & is_within(road_start(2), row, 2)
+        & is_within(road_start(3), row, 3)
+}
+
+// Whether the seven numbers of segment i are in their ranges.
+fn is_segment(row: &[u32; 452], i: usize) -> bool
+    requires { ⌜ i < 64 ⌝ }
+    ensures { λ r. ⌜ r ≡ all-below (λ j. within (getD segmentTable j noRange) (getD (now (row .entry)) (4 + 7 * i + j) 0)) 7 ⌝ }
+{
+    let k = 4 + 7 * i;
+    is_within(segment_range(0), row, k)
+        & is_within(segment_range(1), row, k + 1)
+        & is_within(segment_range(2), row, k + 2)
+        & is_within(segment_range(3), row, k + 3)
+        & is_within(segment_range(4), row, k + 4)
+        & is_within(segment_range(5), row, k + 5)
+        & is_within(segment_range(6), row, k + 6)
+}
+
+// Whether a row is a road that the reading can give.
+pub fn is_road(row: &[u32; 452]) -> bool
+    ensures { λ r. ⌜ r ≡ roadAllowed (now (row .entry)) ⌝ }
+{
+    let ns = segments(row[0]);
+    let mut ok = is_start(row);
+    let mut i: usize = 0;
+    while i < ns {
+        ok = ok & is_segment(row, i);
+        i += 1;
     }
     ok
 }
 
-// Whether a row is a road that the reading can give.
-pub fn is_road(row: [u32; 452]) -> bool
-    ensures { λ r. ⌜ r ≡ roadAllowed row ⌝ }
+// Whether the first three numbers of a period of a road of ns segments are in their ranges.
+fn is_opening(ns: u32, row: &[u32; 452]) -> bool
+    ensures { λ r. ⌜ r ≡ all-below (λ k. within (periodRange ns k) (getD (now (row .entry)) k 0)) 3 ⌝ }
 {
-    is_allowed(Layout::Road(row[0]), row)
+    is_within(period_range(ns, 0), row, 0)
+        & is_within(period_range(ns, 1), row, 1)
+        & is_within(period_range(ns, 2), row, 2)
+}
+
+// Whether the two numbers of segment i in a period are in their range.
+fn is_ramp(row: &[u32; 452], i: usize) -> bool
+    requires { ⌜ i < 64 ⌝ }
+    ensures { λ r. ⌜ r ≡ all-below (λ j. within (0 to 10000) (getD (now (row .entry)) (3 + 2 * i + j) 0)) 2 ⌝ }
+{
+    let k = 3 + 2 * i;
+    is_within(ramp_range(), row, k) & is_within(ramp_range(), row, k + 1)
 }
 
 // Whether a row is a period that the reading can give on a road.
-pub fn is_period(road: [u32; 452], row: [u32; 452]) -> bool
-    ensures { λ r. ⌜ r ≡ periodAllowed road row ⌝ }
+pub fn is_period(road: &[u32; 452], row: &[u32; 452]) -> bool
+    ensures { λ r. ⌜ r ≡ periodAllowed (now (road .entry)) (now (row .entry)) ⌝ }
 {
-    is_allowed(Layout::Period(road[0]), row)
+    let ns = segments(road[0]);
+    let mut ok = is_opening(road[0], row);
+    let mut i: usize = 0;
+    while i < ns {
+        ok = ok & is_ramp(row, i);
+        i += 1;
+    }
+    ok
 }
 
 // How many bytes the numbers take.
@@ -337,50 +390,44 @@ pub fn write_period(buffer: &mut [u8], at: usize, row: [u32; 452]) -> Written
 
 // A road's first four numbers: NS, KJ, KC, A.
 pub struct RoadGlobals {
-    pub segments: u64,
-    pub jam: u64,
-    pub critical: u64,
-    pub drop: u64,
+    pub segments: u32,
+    pub jam: u32,
+    pub critical: u32,
+    pub drop: u32,
 }
 
 // A segment: L, N, V, C, R, s, F.
 pub struct Segment {
-    pub length: u64,
-    pub lanes: u64,
-    pub speed: u64,
-    pub capacity: u64,
-    pub onramp: u64,
-    pub share: u64,
-    pub offramp: u64,
+    pub length: u32,
+    pub lanes: u32,
+    pub speed: u32,
+    pub capacity: u32,
+    pub onramp: u32,
+    pub share: u32,
+    pub offramp: u32,
 }
 
 // A period's first three numbers: NS, the mainline demand, X.
 pub struct PeriodGlobals {
-    pub segments: u64,
-    pub demand: u64,
-    pub exit: u64,
+    pub segments: u32,
+    pub demand: u32,
+    pub exit: u32,
 }
 
 // A ramp in a period: its demand and its meter rate.
 pub struct Ramp {
-    pub demand: u64,
-    pub meter: u64,
-}
-
-fn wide(x: u32) -> u64
-    ensures { λ r. ⌜ r ≡ x ⌝ }
-{
-    x as u64
+    pub demand: u32,
+    pub meter: u32,
 }
 
 pub fn globals_of_road(row: &[u32; 452]) -> RoadGlobals
     ensures { λ r. ⌜ r ≡ roadGlobals (now (row .entry)) ⌝ }
 {
     RoadGlobals {
-        segments: wide(row[0]),
-        jam: wide(row[1]),
-        critical: wide(row[2]),
-        drop: wide(row[3]),
+        segments: row[0],
+        jam: row[1],
+        critical: row[2],
+        drop: row[3],
     }
 }
 
@@ -391,13 +438,13 @@ pub fn segment_at(row: &[u32; 452], i: usize) -> Segment
 {
     let k = 4 + 7 * i;
     Segment {
-        length: wide(row[k]),
-        lanes: wide(row[k + 1]),
-        speed: wide(row[k + 2]),
-        capacity: wide(row[k + 3]),
-        onramp: wide(row[k + 4]),
-        share: wide(row[k + 5]),
-        offramp: wide(row[k + 6]),
+        length: row[k],
+        lanes: row[k + 1],
+        speed: row[k + 2],
+        capacity: row[k + 3],
+        onramp: row[k + 4],
+        share: row[k + 5],
+        offramp: row[k + 6],
     }
 }
 
@@ -405,9 +452,9 @@ pub fn globals_of_period(row: &[u32; 452]) -> PeriodGlobals
     ensures { λ r. ⌜ r ≡ periodGlobals (now (row .entry)) ⌝ }
 {
     PeriodGlobals {
-        segments: wide(row[0]),
-        demand: wide(row[1]),
-        exit: wide(row[2]),
+        segments: row[0],
+        demand: row[1],
+        exit: row[2],
     }
 }
 
@@ -418,7 +465,7 @@ pub fn ramp_at(row: &[u32; 452], i: usize) -> Ramp
 {
     let k = 3 + 2 * i;
     Ramp {
-        demand: wide(row[k]),
-        meter: wide(row[k + 1]),
+        demand: row[k],
+        meter: row[k + 1],
     }
 }

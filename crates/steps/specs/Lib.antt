@@ -1,6 +1,7 @@
 pub mod Rules
 pub mod Place
 pub mod Step
+pub mod CellRow
 pub mod Held
 pub mod Claims
 pub mod Largest

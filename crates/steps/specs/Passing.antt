@@ -1,108 +1,155 @@
--- One pass over the segments: what the calls at a segment ask, what holds before each segment, and what each turn adds.
-use Prim.Native.Nat.{ℕ, zero, suc, _+_, _-_, _≤_, _<_, min}
+-- One pass over the segments, in place: what the calls at a segment ask, what holds before each segment, and what each turn adds.
+use Prim.Native.Nat.{ℕ, zero, suc, _+_, _-_, _*_, _≤_, _<_, min}
 use mathlib.Core.List.{List}
-use mathlib.Core.Path.{_≡_, refl}
+use mathlib.Core.Path.{_≡_, refl, sym, ap, _∙_}
 use native.Mathlib.Numerals.{add-one}
 use native.Mathlib.Omega.{arith}
-use lib.ListN.{length, set}
+use lib.ListN.{length, getD}
 use lib.Dec.{ltb}
+use Rattle.conditions.specs.declared.InForce.{InForce}
+use Rattle.conditions.specs.declared.Shortcuts.{Shortcuts}
 use Rattle.steps.specs.declared.Cell.{Cell}
 use Rattle.steps.specs.declared.Flow.{Flow}
-use Rattle.conditions.specs.declared.InForce.{InForce}
 use Rattle.steps.specs.declared.Sent.{Sent}
 use Rattle.steps.specs.declared.Split.{Split}
 use Rattle.steps.specs.declared.State.{State}
-use Rattle.steps.specs.declared.Stepped.{Stepped}
-use Rattle.conditions.specs.Conditions.{Conditions, inForceAt}
-use Rattle.steps.specs.Rules.{off, leaving}
-use Rattle.steps.specs.Split.{GoodSplit, off-most}
-use Rattle.steps.specs.Place.{splitOf, mostOf, sentOf, inflowOf, leavingOf, movedOf}
-use Rattle.steps.specs.Step.{cellIn, mainWishAt, queuedAt, flowAt, mainFlowAt, nextCell, replaced, stepped, sumTo, leftOf}
+use Rattle.conditions.specs.Conditions.{shortcutsOf, Conditions, inForceAt}
+use Rattle.conditions.specs.Values.{values-at}
+use Rattle.steps.specs.Rules.{off, through, leaving}
+use Rattle.steps.specs.Split.{GoodSplit, through-most}
+use Rattle.steps.specs.Place.{splitOf, mostOf, onwardOf, sentOf, inflowOf, leavingOf, movedOf}
+use Rattle.steps.specs.Step.{noCell, cellIn, mainWishAt, queuedAt, flowAt, mainFlowAt, nextCell, replaced, stepped, sumTo, leftOf}
+use Rattle.steps.specs.CellRow.{cellAt, cellsOf, stateIn, withCell, with-cell-length, cells-put}
 use Rattle.conditions.specs.Good.{GoodPlace, GoodConditions}
 use Rattle.steps.specs.Held.{Held, Bounded}
-use Rattle.steps.specs.Laws.{exit-exact, good-split, let-out, let-out-parts, main-flow-at, origin-flow, ramp-limit, ramp-queue, taken-in}
+use Rattle.steps.specs.Laws.{all-go, exit-exact, goes-on, good-split, let-out, let-out-parts, main-flow-at, most-capacity, off-most-at, origin-flow, ramp-limit, ramp-queue, taken-in}
 use Rattle.steps.specs.Balance.{left-is}
 use Rattle.steps.specs.Bounds.{off-most-after}
-use Rattle.steps.specs.Sums.{sum-more, sum-most}
+use Rattle.steps.specs.Sums.{replaced-beyond, sum-more, sum-most}
 
 -- what moving a cell on asks, so that nothing overflows
-pub record Movable (here : InForce) (cell : Cell) (flow : Flow) (most : ℕ) : Type 0 where
+pub record Movable (here : InForce) (cell : Cell) (flow : Flow) (sent : Sent) (ahead : ℕ) : Type 0 where
   pub good : GoodPlace here
   pub held : Held 5760 cell
   pub main-most : flow .main ≤ 20000
   pub ramp-most : (flow .ramp ≤ 10000) × (flow .ramp ≤ cell .q + here .demand)
-  pub most-is : most ≡ mostOf here cell
+  pub sent-is : sent ≡ sentOf here cell
+  pub ahead-most : ahead ≤ sent .wish
 
 -- what is in force at a segment, read from the row, is good
 pub good-here : (c : Conditions) (i : ℕ) (here : InForce) → GoodConditions c → i < c .segments → here ≡ inForceAt c i → GoodPlace here
 good-here c i here good h e = rw e (good .place i h)
 
+-- and its shortcuts are those of what is in force
+pub short-here : (here place : InForce) (short : Shortcuts) → here ≡ place → short ≡ shortcutsOf place → (short .reach ≡ 22 * here .speed) × (short .easy ≡ shortcutsOf here .easy)
+unfolding shortcutsOf
+short-here here place short e s = rw (s, e) (refl, refl)
+
 pub fits-split : (here : InForce) (cell : Cell) (split : Split) → split ≡ splitOf here cell → GoodPlace here → Held 5760 cell → GoodSplit split
 fits-split here cell split s good held = rw s (good-split here cell good held)
 
--- what leaves, by the split and the most that may
-module _ (here : InForce) (cell : Cell) (flow : Flow) (most ahead y : ℕ) (split : Split) (m : Movable here cell flow most) (s : split ≡ splitOf here cell) (e : y ≡ leaving split most ahead) where
-  is-leaving : y ≡ leavingOf here cell ahead
-  unfolding leavingOf
-  is-leaving = rw (e, s, m .most-is)
+-- no more wish to go on than the capacity
+pub sent-small : (here : InForce) (cell : Cell) (sent : Sent) → sent ≡ sentOf here cell → GoodPlace here → (sent .most ≤ 20000) × (sent .wish ≤ 20000)
+unfolding sentOf onwardOf
+sent-small here cell sent e good =
+    rw e (omega (arith, most-capacity here cell, good .capacity), omega (arith, through-most (splitOf here cell) (mostOf here cell), most-capacity here cell, good .capacity))
 
-  pub leaves : (y ≤ cell .n) × (y ≤ 20000)
-  leaves = (omega (arith, is-leaving, let-out-parts here cell ahead), omega (arith, is-leaving, let-out here cell ahead, m .good .capacity))
+-- what leaves, by the split and what is sent on
+module _ (here : InForce) (cell : Cell) (flow : Flow) (sent : Sent) (ahead : ℕ) (split : Split) (m : Movable here cell flow sent ahead) (s : split ≡ splitOf here cell) where
+  pub goes-through : sent .wish ≡ through split (sent .most)
+  unfolding sentOf onwardOf
+  goes-through = rw (s, m .sent-is)
 
-  pub leaves-off : (o : ℕ) → o ≡ off split y → o ≤ 20000
-  leaves-off o f = omega (arith, off-most split y (fits-split here cell split s (m .good) (m .held)), leaves)
+  module _ (y : ℕ) (e : y ≡ leaving split (sent .most) ahead) where
+    pub is-leaving : y ≡ leavingOf here cell ahead
+    unfolding leavingOf sentOf
+    is-leaving = rw (e, s, m .sent-is)
+
+    pub leaves : (y ≤ cell .n) × (y ≤ 20000)
+    leaves = (omega (arith, is-leaving, let-out-parts here cell ahead), omega (arith, is-leaving, let-out here cell ahead, m .good .capacity))
+
+    goes-ahead : ahead ≤ onwardOf here cell
+    unfolding sentOf
+    goes-ahead = rw (m .sent-is) at (m .ahead-most)
+
+    -- the flow ahead is of them, and the rest takes the off-ramp
+    pub rest-off : (ahead ≤ y) × (y - ahead ≡ off (splitOf here cell) y)
+    rest-off =
+        let whole = all-go here cell ahead (good-split here cell (m .good) (m .held)) in
+        let on = goes-on here cell ahead goes-ahead in
+        rw is-leaving (omega (arith, whole, on), omega (arith, whole, on))
+
+-- by the off-ramp no more than it takes
+pub moved-off : (here : InForce) (cell : Cell) (flow : Flow) (ahead : ℕ) (after : Cell) → GoodPlace here → Held 5760 cell → after ≡ movedOf here cell flow (leavingOf here cell ahead) → after .off ≤ 10000
+unfolding movedOf
+moved-off here cell flow ahead after good held e = rw e (omega (arith, off-most-at here cell ahead (good-split here cell good held), good .offramp))
 
 module _ (c : Conditions) (state : State) (good : GoodConditions c) (bounded : Bounded (c .segments) 5760 state) where
-  pub movable-at : (i : ℕ) (flow : Flow) (sent : Sent) →
+  pub movable-at : (i : ℕ) (flow : Flow) (sent : Sent) (ahead : ℕ) →
       i < c .segments →
       flow ≡ flowAt c state i →
       sent ≡ sentOf (inForceAt c i) (cellIn state i) →
-      Movable (inForceAt c i) (cellIn state i) flow (sent .most)
-  unfolding sentOf
-  movable-at i flow sent h f s =
+      ahead ≤ sent .wish →
+      Movable (inForceAt c i) (cellIn state i) flow sent ahead
+  movable-at i flow sent ahead h f s l =
       let t = taken-in (inForceAt c i) (cellIn state i) (mainWishAt c state i) (queuedAt c state i) (good .place i h) in
-      let l = ramp-limit (inForceAt c i) (cellIn state i) (mainWishAt c state i) (queuedAt c state i) in
-      rw (f, s) (record {
+      let r = ramp-limit (inForceAt c i) (cellIn state i) (mainWishAt c state i) (queuedAt c state i) in
+      record {
         good = good .place i h;
         held = bounded .cells i h;
-        main-most = omega (arith, good .place i h .capacity);
-        ramp-most = (omega (arith, good .place i h .limit), ramp-queue (inForceAt c i) (cellIn state i) _ _);
-        most-is = refl;
-      })
+        main-most = rw f (omega (arith, good .place i h .capacity));
+        ramp-most = rw f (omega (arith, good .place i h .limit), ramp-queue (inForceAt c i) (cellIn state i) _ _);
+        sent-is = s;
+        ahead-most = l;
+      }
 
--- the pass before segment i: the cells before it are moved on, the flow is the one into it, and left counts the off-ramps before it
-pub record Passing (c : Conditions) (state : State) (last waiting : ℕ) (cells : List Cell) (flow : Flow) (left i : ℕ) : Type 0 where
+-- the pass before segment i: in the row the cells before it are moved on and the others are not, the flow is the one into it, and left
+-- counts the off-ramps before it
+pub record Passing (c : Conditions) (state : State) (last origin : ℕ) (row : List ℕ) (flow : Flow) (left i : ℕ) : Type 0 where
   pub within : i ≤ last
   pub last-one : last + 1 ≡ c .segments
-  pub waiting-is : waiting ≡ state .origin + c .demand - mainFlowAt c state zero
-  pub cells-are : cells ≡ replaced (nextCell c state) i (state .cells)
+  pub origin-is : origin ≡ state .origin + c .demand - mainFlowAt c state zero
+  pub long : length row ≡ 384
+  pub cells-are : cellsOf row ≡ replaced (nextCell c state) i (state .cells)
   pub flow-is : flow ≡ flowAt c state i
   pub left-is : left ≡ sumTo (λ j. nextCell c state j .off) i
 
-module _ (c : Conditions) (state : State) (origin demand : ℕ) (flow : Flow) (good : GoodConditions c) (origins : origin ≡ state .origin) (demands : demand ≡ c .demand) (first : flow ≡ inflowOf (inForceAt c 0) (cellIn state 0) (origin + demand) (ltb 0 origin)) where
+module _ (c : Conditions) (state : State) (demand : ℕ) (flow : Flow) (good : GoodConditions c) (demands : demand ≡ c .demand) (first : flow ≡ inflowOf (inForceAt c 0) (cellIn state 0) (state .origin + demand) (ltb 0 (state .origin))) where
   first-flow : flow ≡ flowAt c state 0
   unfolding mainWishAt queuedAt
-  first-flow = rw (first, origins, demands)
+  first-flow = rw (first, demands)
 
   first-main : flow .main ≡ mainFlowAt c state 0
   first-main = rw (first-flow, main-flow-at c state 0 (omega (arith, good .segments .0)))
 
-  pub first-fits : flow .main ≤ origin + demand
+  pub first-fits : flow .main ≤ state .origin + demand
   first-fits = omega (arith, first-main, origin-flow c state)
 
   -- the pass before its first turn
-  pub started : (last : ℕ) → last ≡ c .segments - 1 → Passing c state last (origin + demand - flow .main) (state .cells) flow 0 0
+  pub started : (last : ℕ) (row : List ℕ) →
+      last ≡ c .segments - 1 →
+      length row ≡ 384 →
+      cellsOf row ≡ state .cells →
+      Passing c state last (state .origin + demand - flow .main) row flow 0 0
   unfolding replaced sumTo
-  started last e = record {
+  started last row e l same = record {
     within = omega arith;
     last-one = omega (arith, good .segments .0);
-    waiting-is = rw (first-main, origins, demands);
-    cells-are = refl;
+    origin-is = rw (first-main, demands);
+    long = l;
+    cells-are = same;
     flow-is = first-flow;
     left-is = refl;
   }
 
-module _ (c : Conditions) (state : State) (last waiting : ℕ) (cells : List Cell) (flow : Flow) (left i : ℕ) (at : Passing c state last waiting cells flow left i) where
+module _ (c : Conditions) (state : State) (last origin : ℕ) (row : List ℕ) (flow : Flow) (left i : ℕ) (at : Passing c state last origin row flow left i) where
+  -- from segment i on the row has the cells of the step's start
+  pub still : (j : ℕ) → i ≤ j → j < 64 → cellAt row j ≡ cellIn state j
+  still j h l =
+      sym (values-at (cellAt row) 64 j noCell l)
+      ∙ ap (λ xs. getD xs j noCell) (at .cells-are)
+      ∙ replaced-beyond (nextCell c state) i j (state .cells) noCell h
+
   pub left-small : {t : ℕ} → GoodConditions c → Bounded (c .segments) t state → left ≤ 640000
   left-small good bounded =
       let n = at .last-one in
@@ -114,51 +161,50 @@ module _ (c : Conditions) (state : State) (last waiting : ℕ) (cells : List Cel
         sum-most (λ j. nextCell c state j .off) 10000 i (λ j h. off-most-after c state good bounded j (omega arith)),
       )
 
-  module _ (sent : Sent) (sending : sent ≡ sentOf (inForceAt c i) (cellIn state i)) where
-    next-cells : (after : Cell) → after ≡ nextCell c state i → set cells i after ≡ replaced (nextCell c state) (i + 1) (state .cells)
+  module _ (sent : Sent) (sending : sent ≡ sentOf (inForceAt c i) (cellIn state i)) (small : i < 64) where
+    next-cells : (after : Cell) → after ≡ nextCell c state i → cellsOf (withCell row i after) ≡ replaced (nextCell c state) (i + 1) (state .cells)
     unfolding replaced
-    next-cells after e = rw (add-one, at .cells-are, e)
+    next-cells after e = cells-put row i after (at .long) small ∙ rw (add-one, at .cells-are, e)
 
-    next-left : (off : ℕ) → off ≡ nextCell c state i .off → left + off ≡ sumTo (λ j. nextCell c state j .off) (i + 1)
-    next-left off e = sum-more (λ j. nextCell c state j .off) i left off (at .left-is) e
+    next-left : (after : Cell) → after ≡ nextCell c state i → left + after .off ≡ sumTo (λ j. nextCell c state j .off) (i + 1)
+    next-left after e = sum-more (λ j. nextCell c state j .off) i left (after .off) (at .left-is) (rw e)
 
     -- a turn of a segment before the last
-    pub turned : (ahead : Flow) (after : Cell) (off : ℕ) →
+    pub turned : (ahead : Flow) (after : Cell) →
         i < last →
         ahead ≡ inflowOf (inForceAt c (i + 1)) (cellIn state (i + 1)) (sent .wish) (sent .queued) →
         after ≡ movedOf (inForceAt c i) (cellIn state i) flow (leavingOf (inForceAt c i) (cellIn state i) (ahead .main)) →
-        off ≡ after .off →
-        Passing c state last waiting (set cells i after) ahead (left + off) (i + 1)
+        Passing c state last origin (withCell row i after) ahead (left + after .off) (i + 1)
     unfolding mainWishAt queuedAt sentOf
-    turned ahead after off h a e o =
+    turned ahead after h a e =
         let f : ahead ≡ flowAt c state (i + 1) = rw (a, sending, add-one) in
         let m : ahead .main ≡ mainFlowAt c state (suc i) = rw (f, add-one, main-flow-at c state (suc i) (omega (arith, at .last-one))) in
         let x : after ≡ nextCell c state i = rw (e, at .flow-is, m) in
         record {
           within = omega arith;
           last-one = at .last-one;
-          waiting-is = at .waiting-is;
+          origin-is = at .origin-is;
+          long = with-cell-length row i after ∙ at .long;
           cells-are = next-cells after x;
           flow-is = f;
-          left-is = next-left off (rw (o, x));
+          left-is = next-left after x;
         }
 
     -- and that of the last
-    pub done : {t : ℕ} (exit off : ℕ) (after : Cell) →
+    pub done : {t : ℕ} (exit : ℕ) (after : Cell) →
         GoodConditions c →
         Bounded (c .segments) t state →
         c .segments ≤ length (state .cells) →
         last ≤ i →
         exit ≡ min (sent .wish) (c .exit) →
         after ≡ movedOf (inForceAt c i) (cellIn state i) flow (leavingOf (inForceAt c i) (cellIn state i) exit) →
-        off ≡ after .off →
-        _≡_ {A = Stepped}
-        (record { state = record { cells = set cells i after; origin = waiting; exit = exit }; left = exit + (left + off) })
-        (record { state = stepped c state; left = leftOf (c .segments) (stepped c state) })
+        (stateIn (withCell row i after) (record { origin = origin; exit = exit }) ≡ stepped c state)
+        × (exit + (left + after .off) ≡ leftOf (c .segments) (stepped c state))
+        × (length (withCell row i after) ≡ 384)
     unfolding stepped mainWishAt sentOf
-    done exit off after good bounded long h x e o =
+    done exit after good bounded long h x e =
         let n : suc i ≡ c .segments = omega (arith, at .within, at .last-one) in
         let p : i + 1 ≡ c .segments = omega (arith, n) in
         let w : exit ≡ mainFlowAt c state (c .segments) = rw (x, sending, exit-exact c state, ← n) in
         let y : after ≡ nextCell c state i = rw (e, at .flow-is, w, n) in
-        rw (left-is c state good bounded long, ← p, next-cells after y, next-left off (rw (o, y)), at .waiting-is, w, p)
+        (rw (next-cells after y, at .origin-is, w, p), rw (left-is c state good bounded long, ← p, next-left after y, w, p), with-cell-length row i after ∙ at .long)

@@ -115,7 +115,3 @@ leaving-by-flow s b f small h =
     let bound : (y : ℕ) → leb (through s y) f ≡ leb y (1000 * f / (1000 - s .share)) =
     λ y. leb-iff _ _ _ _ (through-bound s f y small) in
     omega (arith, largest-min (λ y. leb (through s y) f) (1000 * f / (1000 - s .share)) b bound, leb-false b (1000 * f / (1000 - s .share)) (sym (bound b) ∙ lt-leb (through s b) f h))
-
--- without an off-ramp all go on
-pub leaving-straight : (s : Split) (b f : ℕ) → s .share ≡ 0 → f < through s b → leaving s b f ≡ f
-leaving-straight s b f z h = leaving-by-flow s b f (omega arith) h ∙ rw z (omega arith)

@@ -1,7 +1,7 @@
 -- Sums over the indexes below a number, and lists whose first elements are replaced.
 use Prim.Native.Nat.{ℕ, zero, suc, _+_, _*_, _≤_, _<_}
 use mathlib.Core.List.{List}
-use mathlib.Core.Path.{_≡_, refl, _∙_, subst⁻¹}
+use mathlib.Core.Path.{_≡_, refl, sym, _∙_, subst⁻¹}
 use mathlib.Core.Bool.{Bool, true, false}
 use mathlib.Core.Logic.{⊎-elim}
 use native.Mathlib.Nat.{eq-or-lt-of-le}
@@ -11,6 +11,7 @@ use lib.ListN.{length, getD, length-set, List·getD-eq-default}
 use lib.Dec.{ltb}
 use borrow.Author.Tests.{ltb-true, ltb-false}
 use lib.Seq.{getD-set-same, getD-set-other}
+use Rattle.conditions.specs.Values.{valuesTo, values-are}
 use Rattle.steps.specs.Step.{replaced, sumTo}
 
 pub length-replaced : {A : Type 0} (g : ℕ → A) (k : ℕ) (xs : List A) → length (replaced g k xs) ≡ length xs
@@ -27,6 +28,17 @@ replaced-at g (suc k) i xs d h l =
     (λ e. rw e (getD-set-same (replaced g k xs) k (g k) d (omega (arith, length-replaced g k xs))))
     (λ below. getD-set-other (replaced g k xs) k i (g k) d (λ e. omega arith) ∙ replaced-at g k i xs d below l)
     (eq-or-lt-of-le {n = i} {m = k} (omega arith))
+
+-- where all are replaced, the list is the function's values
+pub replaced-all : {A : Type 0} (g : ℕ → A) (k : ℕ) (xs : List A) (d : A) → length xs ≡ k → replaced g k xs ≡ valuesTo g k
+replaced-all g k xs d l =
+    sym (values-are g k (replaced g k xs) d (length-replaced g k xs ∙ l) (λ i h. sym (replaced-at g k i xs d h (omega arith))))
+
+-- and those from the number on stay
+pub replaced-beyond : {A : Type 0} (g : ℕ → A) (k i : ℕ) (xs : List A) (d : A) → k ≤ i → getD (replaced g k xs) i d ≡ getD xs i d
+unfolding replaced
+replaced-beyond g zero i xs d h = refl
+replaced-beyond g (suc k) i xs d h = getD-set-other (replaced g k xs) k i (g k) d (λ e. omega arith) ∙ replaced-beyond g k i xs d (omega arith)
 
 -- what holds of the function's value and of the default holds of the element there, however long the list is
 either-by : {A : Type 0} (P : A → Type 0) (g : ℕ → A) (k i : ℕ) (xs : List A) (d : A) → i < k → P (g i) → P d → (t : Bool) → ltb i (length xs) ≡ t → P (getD (replaced g k xs) i d)

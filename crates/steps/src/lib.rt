@@ -7,14 +7,17 @@ use conditions::demand_in;
 use conditions::exit_in;
 use conditions::in_force_at;
 use conditions::segments_in;
+use conditions::shortcuts_at;
 ghost use mathlib.Core.Path.{_≡_};
-ghost use Prim.Native.Nat.{_≤_, _<_};
-ghost use Rattle.conditions.specs.Conditions.{inForceAt};
+ghost use Prim.Native.Nat.{ℕ, _*_, _≤_, _<_};
+ghost use lib.ListN.{length};
+ghost use Rattle.conditions.specs.Conditions.{inForceAt, shortcutsOf};
 ghost use Rattle.conditions.specs.Good.{GoodPlace, GoodConditions};
-ghost use Rattle.conditions.specs.Row.{conditionsIn};
+ghost use Rattle.conditions.specs.Row.{conditionsIn, HasShortcuts};
 ghost use Rattle.steps.specs.Rules.{wishToLeave, off, through, mostLeaving, rampWish, entrance, supply, rampFlow, mainFlow, leaving};
 ghost use Rattle.steps.specs.Place.{splitOf, sentOf, supplyOf, inflowOf, leavingOf, movedOf};
 ghost use Rattle.steps.specs.Step.{freshState, stepped, arrivedOf, leftOf, storedOf};
+ghost use Rattle.steps.specs.CellRow.{cellAt, withCell, cellsOf, stateIn};
 ghost use Rattle.steps.specs.Held.{Held, Bounded};
 ghost use Rattle.steps.specs.Split.{GoodSplit};
 ghost use Rattle.steps.specs.Passing.{Movable};
@@ -37,52 +40,58 @@ pub struct State {
     pub exit: u32,
 }
 
+// What a state has beside its cells.
+pub struct Ends {
+    pub origin: u32,
+    pub exit: u32,
+}
+
 // What the split of leaving parts goes by.
 pub struct Split {
-    pub share: u64,
+    pub share: u32,
 }
 
 // What enters at a node: the mainline flow f and the ramp flow r.
 pub struct Flow {
-    pub main: u64,
-    pub ramp: u64,
+    pub main: u32,
+    pub ramp: u32,
 }
 
 // What a segment sends on: Y0, the mainline wish at the node ahead, and whether the segment is queued.
 pub struct Sent {
-    pub most: u64,
-    pub wish: u64,
+    pub most: u32,
+    pub wish: u32,
     pub queued: bool,
 }
 
-// What a step gives: the state after it, and how many parts left in it.
+// What a step gives beside the cells: the ends after it, and how many parts left in it.
 pub struct Stepped {
-    pub state: State,
-    pub left: u64,
+    pub ends: Ends,
+    pub left: u32,
 }
 
-// D. The quotient is worked out only where it is the least.
-fn wish_to_leave(n: u64, capacity: u64, speed: u64, length: u64) -> u64
-    requires { ⌜ (n ≤ 2880000) × (capacity ≤ 20000) × (speed ≤ 85) × (1 ≤ length) × (length ≤ 26400) ⌝ }
-    ensures { λ r. ⌜ r ≡ wishToLeave n capacity speed length ⌝ }
+// D, by the reach 22 × V. The quotient is worked out only where it is the least.
+fn wish_to_leave(n: u32, capacity: u32, reach: u32, length: u32) -> u32
+    requires { ⌜ (n ≤ 2880000) × (capacity ≤ 20000) × (reach ≤ 1870) × (1 ≤ length) × (length ≤ 26400) ⌝ }
+    ensures { λ r. ⌜ ((speed : ℕ) → reach ≡ 22 * speed → r ≡ wishToLeave n capacity speed length) ⌝ }
 {
-    let moving = n * 22 * speed;
+    let moving = wide(n) * wide(reach);
     let most = least(n, capacity);
-    if most * length <= moving {
+    if wide(most * length) <= moving {
         return most;
     }
-    (moving + (length - 1)) / length
+    (moving as u32 + (length - 1)) / length
 }
 
 // off(y), and what is left of y: through(y).
-fn off_of(split: Split, y: u64) -> u64
+fn off_of(split: Split, y: u32) -> u32
     requires { ⌜ GoodSplit split × (y ≤ 20000) ⌝ }
     ensures { λ r. ⌜ r ≡ off split y ⌝ }
 {
     y * split.share / 1000
 }
 
-fn through_of(split: Split, y: u64) -> u64
+fn through_of(split: Split, y: u32) -> u32
     requires { ⌜ GoodSplit split × (y ≤ 20000) ⌝ }
     ensures { λ r. ⌜ r ≡ through split y ⌝ }
 {
@@ -90,7 +99,7 @@ fn through_of(split: Split, y: u64) -> u64
 }
 
 // Y0: all who wish to leave, or as many as the off-ramp's capacity lets.
-fn most_leaving(split: Split, offramp: u64, wish: u64) -> u64
+fn most_leaving(split: Split, offramp: u32, wish: u32) -> u32
     requires { ⌜ GoodSplit split × (offramp ≤ 10000) × (wish ≤ 20000) ⌝ }
     ensures { λ r. ⌜ r ≡ mostLeaving split offramp wish ⌝ }
 {
@@ -101,7 +110,7 @@ fn most_leaving(split: Split, offramp: u64, wish: u64) -> u64
 }
 
 // W.
-fn ramp_wish(queue: u64, demand: u64, limit: u64) -> u64
+fn ramp_wish(queue: u32, demand: u32, limit: u32) -> u32
     requires { ⌜ (queue ≤ 57600000) × (demand ≤ 10000) ⌝ }
     ensures { λ r. ⌜ r ≡ rampWish queue demand limit ⌝ }
 {
@@ -109,30 +118,28 @@ fn ramp_wish(queue: u64, demand: u64, limit: u64) -> u64
 }
 
 // E.
-fn entrance_of(capacity: u64, lowered: u64, queued: bool) -> u64
+fn entrance_of(capacity: u32, lowered: u32, queued: bool) -> u32
     ensures { λ r. ⌜ r ≡ entrance capacity lowered queued ⌝ }
 {
     if queued { lowered } else { capacity }
 }
 
-// P. Up to Q the quotient is at least C; above it, the quotient is worked out only where it is below E.
-fn supply_of(entrance: u64, capacity: u64, jam: u64, critical: u64, n: u64) -> u64
+// P. Up to Q the quotient is at least C, and is not worked out.
+fn supply_of(entrance: u32, capacity: u32, jam: u32, critical: u32, n: u32) -> u32
     requires { ⌜ (entrance ≤ capacity) × (capacity ≤ 20000) × (jam ≤ 2880000) × (critical < jam) ⌝ }
     ensures { λ r. ⌜ r ≡ supply entrance capacity jam critical n ⌝ }
 {
     let room = less(jam, n);
+    let most = least(entrance, room);
     if n <= critical {
-        return least(entrance, room);
+        return most;
     }
-    let span = jam - critical;
-    if entrance * span <= capacity * room {
-        return least(entrance, room);
-    }
-    least(room, capacity * room / span)
+    let quotient = wide(capacity) * wide(room) / wide(jam - critical);
+    least(most, quotient as u32)
 }
 
 // r. The ramp's share of the supply is worked out only where the rest is less than the ramp's wish.
-fn ramp_flow(p: u64, lanes: u64, m: u64, w: u64) -> u64
+fn ramp_flow(p: u32, lanes: u32, m: u32, w: u32) -> u32
     requires { ⌜ (1 ≤ lanes) × (lanes ≤ 8) ⌝ }
     ensures { λ r. ⌜ r ≡ rampFlow p lanes m w ⌝ }
 {
@@ -148,22 +155,34 @@ fn ramp_flow(p: u64, lanes: u64, m: u64, w: u64) -> u64
 }
 
 // f.
-fn main_flow(m: u64, p: u64, r: u64) -> u64
+fn main_flow(m: u32, p: u32, r: u32) -> u32
     ensures { λ f. ⌜ f ≡ mainFlow m p r ⌝ }
 {
     least(m, less(p, r))
 }
 
-// y: all who may leave, or as many as the node ahead takes of those who go on. Without an off-ramp all go on, and no quotient is needed.
-fn leaving_of(split: Split, most: u64, ahead: u64) -> u64
-    requires { ⌜ GoodSplit split × (most ≤ 20000) ⌝ }
+// f and r. Where the supply takes both wishes, they are the wishes.
+fn merged(p: u32, lanes: u32, m: u32, w: u32) -> Flow
+    requires { ⌜ (1 ≤ lanes) × (lanes ≤ 8) × (m ≤ 115220000) × (w ≤ 10000) ⌝ }
+    ensures { λ r. ⌜ r ≡ record { main = mainFlow m p (rampFlow p lanes m w); ramp = rampFlow p lanes m w } ⌝ }
+{
+    if m + w <= p {
+        return Flow { main: m, ramp: w };
+    }
+    let ramp = ramp_flow(p, lanes, m, w);
+    Flow {
+        main: main_flow(m, p, ramp),
+        ramp,
+    }
+}
+
+// y, by what all who may leave send on: all, or as many as the node ahead takes of those who go on.
+fn leaving_of(split: Split, most: u32, wish: u32, ahead: u32) -> u32
+    requires { ⌜ GoodSplit split × (most ≤ 20000) × (wish ≡ through split most) ⌝ }
     ensures { λ r. ⌜ r ≡ leaving split most ahead ⌝ }
 {
-    if through_of(split, most) <= ahead {
+    if wish <= ahead {
         return most;
-    }
-    if split.share == 0 {
-        return ahead;
     }
     1000 * ahead / (1000 - split.share)
 }
@@ -175,127 +194,175 @@ fn split_of(here: InForce, cell: Cell) -> Split
     Split { share: here.share }
 }
 
-// P of a segment.
-fn supply_in(here: InForce, cell: Cell, queued: bool) -> u64
-    requires { ⌜ GoodPlace here ⌝ }
+// P of a segment. With fewer parts than `easy` it is E.
+fn supply_in(here: InForce, easy: u32, cell: Cell, queued: bool) -> u32
+    requires { ⌜ GoodPlace here × (easy ≡ shortcutsOf here .easy) ⌝ }
     ensures { λ r. ⌜ r ≡ supplyOf here cell queued ⌝ }
 {
     let entrance = entrance_of(here.capacity, here.lowered, queued);
-    supply_of(
-        entrance,
-        here.capacity,
-        here.jam,
-        here.critical,
-        wide(cell.n),
-    )
+    if cell.n < easy {
+        return entrance;
+    }
+    supply_of(entrance, here.capacity, here.jam, here.critical, cell.n)
 }
 
 // f and r at node i, the entrance of segment i with its cell, by the mainline wish and whether a queue stands before the node.
-fn flow_at(row: &[u32; 707], i: usize, cell: Cell, wish: u64, queued: bool) -> Flow
-    requires { ⌜ GoodConditions (conditionsIn (now row)) × (i < conditionsIn (now row) .segments) × Held 5760 cell ⌝ }
+fn flow_at(row: &[u32; 835], i: usize, cell: Cell, wish: u32, queued: bool) -> Flow
+    requires { ⌜ GoodConditions (conditionsIn (now row)) × HasShortcuts (now row) × (i < conditionsIn (now row) .segments) × Held 5760 cell × (wish ≤ 115220000) ⌝ }
     ensures { λ r. ⌜ r ≡ inflowOf (inForceAt (conditionsIn (now (row .entry))) i) cell wish queued ⌝ }
 {
     let here = in_force_at(row, i);
-    let p = supply_in(here, cell, queued);
-    let w = ramp_wish(wide(cell.q), here.demand, here.limit);
-    let ramp = ramp_flow(p, here.lanes, wish, w);
-    Flow {
-        main: main_flow(wish, p, ramp),
-        ramp,
-    }
+    let short = shortcuts_at(row, i);
+    let p = supply_in(here, short.easy, cell, queued);
+    let w = ramp_wish(cell.q, here.demand, here.limit);
+    merged(p, here.lanes, wish, w)
 }
 
 // What segment i with its cell sends on.
-fn sent_at(row: &[u32; 707], i: usize, cell: Cell) -> Sent
-    requires { ⌜ GoodConditions (conditionsIn (now row)) × (i < conditionsIn (now row) .segments) × Held 5760 cell ⌝ }
+fn sent_at(row: &[u32; 835], i: usize, cell: Cell) -> Sent
+    requires { ⌜ GoodConditions (conditionsIn (now row)) × HasShortcuts (now row) × (i < conditionsIn (now row) .segments) × Held 5760 cell ⌝ }
     ensures { λ r. ⌜ r ≡ sentOf (inForceAt (conditionsIn (now (row .entry))) i) cell ⌝ }
 {
     let here = in_force_at(row, i);
-    let n = wide(cell.n);
+    let short = shortcuts_at(row, i);
     let split = split_of(here, cell);
-    let wish = wish_to_leave(n, here.capacity, here.speed, here.length);
+    let wish = wish_to_leave(cell.n, here.capacity, short.reach, here.length);
     let most = most_leaving(split, here.offramp, wish);
     Sent {
         most,
         wish: through_of(split, most),
-        queued: here.critical < n,
+        queued: here.critical < cell.n,
     }
 }
 
-// A segment's cell after the step, by the flows in, the most that may leave and the flow ahead.
-fn moved(here: InForce, cell: Cell, flow: Flow, most: u64, ahead: u64) -> Cell
-    requires { ⌜ Movable here cell flow most ⌝ }
+// A segment's cell after the step, by the flows in, what it sends on and the flow ahead: the rest of y took the off-ramp.
+fn moved(here: InForce, cell: Cell, flow: Flow, sent: Sent, ahead: u32) -> Cell
+    requires { ⌜ Movable here cell flow sent ahead ⌝ }
     ensures { λ r. ⌜ r ≡ movedOf here cell flow (leavingOf here cell ahead) ⌝ }
 {
     let split = split_of(here, cell);
-    let y = leaving_of(split, most, ahead);
-    let off = off_of(split, y);
+    let y = leaving_of(split, sent.most, sent.wish, ahead);
     Cell {
-        n: (wide(cell.n) + flow.main + flow.ramp - y) as u32,
-        q: (wide(cell.q) + here.demand - flow.ramp) as u32,
-        main: flow.main as u32,
-        ramp: flow.ramp as u32,
-        off: off as u32,
-        out: y as u32,
+        n: cell.n + flow.main + flow.ramp - y,
+        q: cell.q + here.demand - flow.ramp,
+        main: flow.main,
+        ramp: flow.ramp,
+        off: y - ahead,
+        out: y,
     }
 }
 
 // The cell of segment i after the step.
-fn moved_at(row: &[u32; 707], i: usize, cell: Cell, flow: Flow, most: u64, ahead: u64) -> Cell
-    requires { ⌜ (i < 64) × (i < conditionsIn (now row) .segments) × Movable (inForceAt (conditionsIn (now row)) i) cell flow most ⌝ }
+fn moved_at(row: &[u32; 835], i: usize, cell: Cell, flow: Flow, sent: Sent, ahead: u32) -> Cell
+    requires { ⌜ (i < 64) × (i < conditionsIn (now row) .segments) × Movable (inForceAt (conditionsIn (now row)) i) cell flow sent ahead ⌝ }
     ensures { λ r. ⌜ r ≡ movedOf (inForceAt (conditionsIn (now (row .entry))) i) cell flow (leavingOf (inForceAt (conditionsIn (now (row .entry))) i) cell ahead) ⌝ }
 {
-    moved(in_force_at(row, i), cell, flow, most, ahead)
+    moved(in_force_at(row, i), cell, flow, sent, ahead)
 }
 
-// One step under the conditions in a row: one pass over the segments, which carries the flow into the segment at hand. The last
-// segment, before the exit, comes after the loop.
-pub fn step(row: &[u32; 707], state: State) -> Stepped
-    requires { ⌜ GoodConditions (conditionsIn (now row)) × Bounded (conditionsIn (now row) .segments) 5760 state ⌝ }
-    ensures { λ r. ⌜ r ≡ record { state = stepped (conditionsIn (now (row .entry))) state; left = leftOf (conditionsIn (now (row .entry)) .segments) (stepped (conditionsIn (now (row .entry))) state) } ⌝ }
+// Cells as a row of 384 numbers, six for each of 64 segments: the cell of segment i.
+fn cell_at(cells: &[u32; 384], i: usize) -> Cell
+    requires { ⌜ i < 64 ⌝ }
+    ensures { λ r. ⌜ r ≡ cellAt (now (cells .entry)) i ⌝ }
+{
+    let at = 6 * i;
+    Cell {
+        n: cells[at],
+        q: cells[at + 1],
+        main: cells[at + 2],
+        ramp: cells[at + 3],
+        off: cells[at + 4],
+        out: cells[at + 5],
+    }
+}
+
+// Puts the cell of segment i.
+fn put_cell(cells: &mut [u32; 384], i: usize, cell: Cell)
+    requires { ⌜ i < 64 ⌝ }
+    ensures { λ _. ⌜ now (cells .exit) ≡ withCell (now (cells .entry)) i cell ⌝ }
+{
+    let at = 6 * i;
+    cells[at] = cell.n;
+    cells[at + 1] = cell.q;
+    cells[at + 2] = cell.main;
+    cells[at + 3] = cell.ramp;
+    cells[at + 4] = cell.off;
+    cells[at + 5] = cell.out;
+}
+
+// The cells of a state as a row.
+pub fn cells_of(state: State) -> [u32; 384]
+    ensures { λ r. ⌜ (cellsOf r ≡ state .cells) × (length r ≡ 384) ⌝ }
+{
+    let mut cells = [0u32; 384];
+    let mut i: usize = 0;
+    while i < 64 {
+        let cell = state.cells[i];
+        put_cell(&mut cells, i, cell);
+        i += 1;
+    }
+    cells
+}
+
+// The state of a row of cells and the ends.
+pub fn state_of(row: &[u32; 384], ends: Ends) -> State
+    ensures { λ r. ⌜ r ≡ stateIn (now (row .entry)) ends ⌝ }
+{
+    let state = fresh();
+    let mut cells = state.cells;
+    let mut i: usize = 0;
+    while i < 64 {
+        let cell = cell_at(row, i);
+        cells[i] = cell;
+        i += 1;
+    }
+    State {
+        cells,
+        origin: ends.origin,
+        exit: ends.exit,
+    }
+}
+
+// One step under the conditions in a row, in place: one pass over the segments, which carries the flow into the segment at hand and
+// puts each cell after it and the next have been read. The last segment, before the exit, comes after the loop.
+pub fn step(row: &[u32; 835], cells: &mut [u32; 384], ends: Ends) -> Stepped
+    requires { ⌜ GoodConditions (conditionsIn (now row)) × HasShortcuts (now row) × (length (now cells) ≡ 384) × Bounded (conditionsIn (now row) .segments) 5760 (stateIn (now cells) ends) ⌝ }
+    ensures { λ r. ⌜ (stateIn (now (cells .exit)) (r .ends) ≡ stepped (conditionsIn (now (row .entry))) (stateIn (now (cells .entry)) ends)) × (r .left ≡ leftOf (conditionsIn (now (row .entry)) .segments) (stepped (conditionsIn (now (row .entry))) (stateIn (now (cells .entry)) ends))) × (length (now (cells .exit)) ≡ 384) ⌝ }
 {
     let last = segments_in(row) - 1;
-    let origin = wide(state.origin);
-    let wish = origin + demand_in(row);
-    let mut cells = state.cells;
-    let mut flow = flow_at(row, 0, state.cells[0], wish, 0 < origin);
-    let waiting = wish - flow.main;
-    let mut left: u64 = 0;
+    let queue = ends.origin;
+    let wish = queue + demand_in(row);
+    let mut flow = flow_at(row, 0, cell_at(cells, 0), wish, 0 < queue);
+    let origin = wish - flow.main;
+    let mut left: u32 = 0;
     let mut i: usize = 0;
     while i < last {
-        let cell = state.cells[i];
-        let sent = sent_at(row, i, cell);
-        let ahead = flow_at(row, i + 1, state.cells[i + 1], sent.wish, sent.queued);
-        let after = moved_at(row, i, cell, flow, sent.most, ahead.main);
-        left += wide(after.off);
-        cells[i] = after;
+        let sent = sent_at(row, i, cell_at(cells, i));
+        let ahead = flow_at(row, i + 1, cell_at(cells, i + 1), sent.wish, sent.queued);
+        let after = moved_at(row, i, cell_at(cells, i), flow, sent, ahead.main);
+        left += after.off;
+        put_cell(cells, i, after);
         flow = ahead;
         i += 1;
     }
-    let cell = state.cells[i];
-    let sent = sent_at(row, i, cell);
+    let sent = sent_at(row, i, cell_at(cells, i));
     let exit = least(sent.wish, exit_in(row));
-    let after = moved_at(row, i, cell, flow, sent.most, exit);
-    left += wide(after.off);
-    cells[i] = after;
-    let next = State {
-        cells,
-        origin: waiting as u32,
-        exit: exit as u32,
-    };
+    let after = moved_at(row, i, cell_at(cells, i), flow, sent, exit);
+    left += after.off;
+    put_cell(cells, i, after);
     Stepped {
-        state: next,
+        ends: Ends { origin, exit },
         left: exit + left,
     }
 }
 
 // Arrived in a step: the mainline demand and all ramp demands.
-pub fn arrived(row: &[u32; 707]) -> u64
+pub fn arrived(row: &[u32; 835]) -> u32
     requires { ⌜ GoodConditions (conditionsIn (now row)) ⌝ }
     ensures { λ r. ⌜ r ≡ arrivedOf (conditionsIn (now (row .entry))) ⌝ }
 {
     let ns = segments_in(row);
-    let mut sum: u64 = 0;
+    let mut sum: u32 = 0;
     let mut i: usize = 0;
     while i < ns {
         sum += in_force_at(row, i).demand;

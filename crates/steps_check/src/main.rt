@@ -1,14 +1,15 @@
 // Steps the roads on standard input, each from a fresh state, and prints the state and the flows after each step.
 // A record: a count (2 bytes, low first), the number of steps, and so many bytes: a road sheet and a period sheet.
-use arithmetic::less;
+use arithmetic::less_wide;
 use letters::Level;
 use steps::Cell;
+use steps::Ends;
 use steps::State;
 ghost use Prim.Native.Nat.{_<_, _≤_};
 ghost use Rattle.sheets.specs.Good.{GoodRoad, GoodPeriod};
 ghost use Rattle.conditions.specs.Conditions.{segments};
 ghost use Rattle.conditions.specs.Good.{GoodConditions};
-ghost use Rattle.conditions.specs.Row.{conditionsIn};
+ghost use Rattle.conditions.specs.Row.{conditionsIn, HasShortcuts};
 
 fn say(label: &[u8], number: u64) {
     io::write_all(1, label);
@@ -62,23 +63,24 @@ fn say_sums(t: u64, origin: u32, arrived: u64, left: u64, partsteps: u64) {
 }
 
 // Makes so many steps under the conditions in a row, and prints each.
-fn run(row: &[u32; 707], road: &[u32; 452], count: u64)
-    requires { ⌜ GoodConditions (conditionsIn (now row)) × (segments (now road) ≤ 64) × (count < 256) ⌝ }
+fn run(row: &[u32; 835], road: &[u32; 452], count: u64)
+    requires { ⌜ GoodConditions (conditionsIn (now row)) × HasShortcuts (now row) × (segments (now road) ≤ 64) × (count < 256) ⌝ }
 {
-    let each = steps::arrived(row);
-    let mut state = steps::fresh();
+    let each = arithmetic::wide(steps::arrived(row));
+    let mut cells = steps::cells_of(steps::fresh());
+    let mut ends = Ends { origin: 0, exit: 0 };
     let mut arrived: u64 = 0;
     let mut left: u64 = 0;
     let mut partsteps: u64 = 0;
     let mut t: u64 = 0;
     while t < count {
-        let done = steps::step(row, state);
-        let next = done.state;
-        state = next;
+        let done = steps::step(row, &mut cells, ends);
+        ends = done.ends;
         arrived += each;
-        left += done.left;
-        partsteps += less(arrived, left);
+        left += arithmetic::wide(done.left);
+        partsteps += less_wide(arrived, left);
         t += 1;
+        let next = steps::state_of(&cells, ends);
         say_sums(t, next.origin, arrived, left, partsteps);
         say_cells(road, next);
     }
@@ -102,8 +104,8 @@ fn play(bytes: &[u8], count: u64)
     if used <= bytes.len() {
         let next = sheets::read_period(&bytes[used..], road);
         let period = next.row;
-        if sheets::is_road(road) {
-            if sheets::is_period(road, period) {
+        if sheets::is_road(&road) {
+            if sheets::is_period(&road, &period) {
                 run_under(&road, &period, count);
             }
         }

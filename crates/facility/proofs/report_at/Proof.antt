@@ -19,39 +19,20 @@ element-copy-out-cell c = omega (arith, c .before .before .pre .0 .segments .1, 
 segment-at-requires : tie.Need-segment-at-requires
 segment-at-requires c κs = omega (arith, c .before .before .before .before .pre .0 .segments .1, c .before .before .before .before .pre .1)
 
-cast-level-of : tie.Need-cast-level-of
-cast-level-of c =
-    let a = c .before .before .before .before .before .before in
-    rw (c .before .segment-at .ensures) (omega (arith, a .pre .0 .segment (a .args .i) (a .pre .1) .length .1))
-
-cast-level-of-2 : tie.Need-cast-level-of-2
-cast-level-of-2 c =
-    let a = c .before .before .before .before .before .before .before in
-    rw (c .before .before .segment-at .ensures) (omega (arith, a .pre .0 .segment (a .args .i) (a .pre .1) .lanes .1))
-
 level-of-requires : tie.Need-level-of-requires
 level-of-requires c κs = tt
 
 returns : tie.Need-returns
 unfolding levelAt inForce
 returns c =
-    let start = c .before .before .before .before .before .before .before .before in
+    let start = c .before .before .before .before .before .before in
     let a = start .args in
     let here = in-force-at (a .f .road) (sheetBy (a .f .taken) (a .f .period)) (a .i) (start .pre .1) in
     let n = cellIn (a .f .state) (a .i) .n in
     let seg = segmentOf (a .f .road) (a .i) in
     let c' = conditionsOf (a .f .road) (sheetBy (a .f .taken) (a .f .period)) in
     let e : levelOf n (inForceAt c' (a .i) .length) (inForceAt c' (a .i) .lanes) ≡ levelOf n (seg .length) (seg .lanes) = rw here in
-    ap (reported (cellIn (a .f .state) (a .i))) (rw (c .before .before .before .segment-at .ensures) at (c .level-of .ensures) ∙ sym e)
+    ap (reported (cellIn (a .f .state) (a .i))) (rw (c .before .segment-at .ensures) at (c .level-of .ensures) ∙ sym e)
 
 pub report-at-spec : {M : Type 1} → statement M
-report-at-spec =
-    tie.close
-    (tie.spec
-    mul-cell
-    element-copy-out-cell
-    segment-at-requires
-    cast-level-of
-    cast-level-of-2
-    level-of-requires
-    returns)
+report-at-spec = tie.close (tie.spec mul-cell element-copy-out-cell segment-at-requires level-of-requires returns)

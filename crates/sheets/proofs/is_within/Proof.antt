@@ -1,12 +1,19 @@
--- A value and its range: two tests.
+-- A number and its range: two tests.
+use native.Mathlib.Omega.{arith}
 use mathlib.Core.Path.{refl}
 use Rattle.sheets.specs.Allowed.{within}
 use Rattle.sheets.proofs.is_within.Statement.{statement}
 use Rattle.sheets.proofs.is_within.Tie as tie
+
+mul-value : tie.Need-mul-value
+mul-value c = omega arith
+
+element-copy-out-value : tie.Need-element-copy-out-value
+element-copy-out-value c = omega arith
 
 returns : tie.Need-returns
 unfolding within
 returns c = refl
 
 pub is-within-spec : {M : Type 1} → statement M
-is-within-spec = tie.close (tie.spec returns)
+is-within-spec = tie.close (tie.spec mul-value element-copy-out-value returns)

@@ -1,5 +1,5 @@
 -- The range of a place of a period, by the place.
-use mathlib.Core.Path.{sym}
+use mathlib.Core.Path.{sym, _∙_}
 use Rattle.sheets.specs.Ranges.{period-first, period-flow, period-ramp}
 use Rattle.numbers.specs.declared.Range.{Range}
 use Prim.Native.Nat.{ℕ}
@@ -21,8 +21,11 @@ returns c =
 returns-2 : tie.Need-returns-2
 returns-2 c = sym (period-flow _ _ (c .before .if1 .left) (c .if2 .taken))
 
+ramp-range-requires : tie.Need-ramp-range-requires
+ramp-range-requires c κs = tt
+
 returns-3 : tie.Need-returns-3
-returns-3 c = sym (period-ramp _ _ (c .if2 .left))
+returns-3 c = c .ramp-range .ensures ∙ sym (period-ramp _ _ (c .before .if2 .left))
 
 pub period-range-spec : {M : Type 1} → statement M
-period-range-spec = tie.close (tie.spec most-requires least-requires returns returns-2 returns-3)
+period-range-spec = tie.close (tie.spec most-requires least-requires returns returns-2 ramp-range-requires returns-3)

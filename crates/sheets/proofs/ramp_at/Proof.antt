@@ -1,51 +1,36 @@
 -- A ramp's two numbers.
+use native.Mathlib.Omega.{arith}
+use mathlib.Core.Path.{refl}
 use Rattle.sheets.specs.Parts.{rampOf}
-use borrow.Author.Needs.{needs}
 use Rattle.sheets.proofs.ramp_at.Statement.{statement}
 use Rattle.sheets.proofs.ramp_at.Tie as tie
 
 mul-k : tie.Need-mul-k
-mul-k c = search needs
+mul-k c = omega arith
 
 add-k : tie.Need-add-k
-add-k c = search needs
+add-k c = omega arith
 
-mul-wide : tie.Need-mul-wide
-mul-wide c = search needs
+mul-t4 : tie.Need-mul-t4
+mul-t4 c = omega arith
 
-element-copy-out-wide : tie.Need-element-copy-out-wide
-element-copy-out-wide c = search needs
+element-copy-out-t7 : tie.Need-element-copy-out-t7
+element-copy-out-t7 c = omega arith
 
-wide-requires : tie.Need-wide-requires
-wide-requires c κs = search needs
+add-t8 : tie.Need-add-t8
+add-t8 c = omega arith
 
-add-wide : tie.Need-add-wide
-add-wide c = search needs
+mul-t9 : tie.Need-mul-t9
+mul-t9 c = omega arith
 
-mul-wide-2 : tie.Need-mul-wide-2
-mul-wide-2 c = search needs
-
-element-copy-out-wide-2 : tie.Need-element-copy-out-wide-2
-element-copy-out-wide-2 c = search needs
-
-wide-requires-2 : tie.Need-wide-requires-2
-wide-requires-2 c κs = search needs
+element-copy-out-t12 : tie.Need-element-copy-out-t12
+element-copy-out-t12 c = omega arith
 
 returns : tie.Need-returns
 unfolding rampOf
-returns c = cc
+returns c = refl
 
 pub ramp-at-spec : {M : Type 1} → statement M
 ramp-at-spec =
     tie.close
-    (tie.spec
-    mul-k
-    add-k
-    mul-wide
-    element-copy-out-wide
-    wide-requires
-    add-wide
-    mul-wide-2
-    element-copy-out-wide-2
-    wide-requires-2
-    returns)
+    (tie.spec mul-k add-k mul-t4 element-copy-out-t7 add-t8 mul-t9 element-copy-out-t12 returns)

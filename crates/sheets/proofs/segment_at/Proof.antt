@@ -1,107 +1,79 @@
 -- A segment's seven numbers.
+use native.Mathlib.Omega.{arith}
+use mathlib.Core.Path.{refl}
 use Rattle.sheets.specs.Parts.{segmentOf}
-use borrow.Author.Needs.{needs}
 use Rattle.sheets.proofs.segment_at.Statement.{statement}
 use Rattle.sheets.proofs.segment_at.Tie as tie
 
 mul-k : tie.Need-mul-k
-mul-k c = search needs
+mul-k c = omega arith
 
 add-k : tie.Need-add-k
-add-k c = search needs
+add-k c = omega arith
 
-mul-wide : tie.Need-mul-wide
-mul-wide c = search needs
+mul-t4 : tie.Need-mul-t4
+mul-t4 c = omega arith
 
-element-copy-out-wide : tie.Need-element-copy-out-wide
-element-copy-out-wide c = search needs
+element-copy-out-t7 : tie.Need-element-copy-out-t7
+element-copy-out-t7 c = omega arith
 
-wide-requires : tie.Need-wide-requires
-wide-requires c κs = search needs
+add-t8 : tie.Need-add-t8
+add-t8 c = omega arith
 
-add-wide : tie.Need-add-wide
-add-wide c = search needs
+mul-t9 : tie.Need-mul-t9
+mul-t9 c = omega arith
 
-mul-wide-2 : tie.Need-mul-wide-2
-mul-wide-2 c = search needs
+element-copy-out-t12 : tie.Need-element-copy-out-t12
+element-copy-out-t12 c = omega arith
 
-element-copy-out-wide-2 : tie.Need-element-copy-out-wide-2
-element-copy-out-wide-2 c = search needs
+add-t13 : tie.Need-add-t13
+add-t13 c = omega arith
 
-wide-requires-2 : tie.Need-wide-requires-2
-wide-requires-2 c κs = search needs
+mul-t14 : tie.Need-mul-t14
+mul-t14 c = omega arith
 
-add-wide-2 : tie.Need-add-wide-2
-add-wide-2 c = search needs
+element-copy-out-t17 : tie.Need-element-copy-out-t17
+element-copy-out-t17 c = omega arith
 
-mul-wide-3 : tie.Need-mul-wide-3
-mul-wide-3 c = search needs
+add-t18 : tie.Need-add-t18
+add-t18 c = omega arith
 
-element-copy-out-wide-3 : tie.Need-element-copy-out-wide-3
-element-copy-out-wide-3 c = search needs
+mul-t19 : tie.Need-mul-t19
+mul-t19 c = omega arith
 
-wide-requires-3 : tie.Need-wide-requires-3
-wide-requires-3 c κs = search needs
+element-copy-out-t22 : tie.Need-element-copy-out-t22
+element-copy-out-t22 c = omega arith
 
-add-wide-3 : tie.Need-add-wide-3
-add-wide-3 c = search needs
+add-t23 : tie.Need-add-t23
+add-t23 c = omega arith
 
-mul-wide-4 : tie.Need-mul-wide-4
-mul-wide-4 c = search needs
+mul-t24 : tie.Need-mul-t24
+mul-t24 c = omega arith
 
-element-copy-out-wide-4 : tie.Need-element-copy-out-wide-4
-element-copy-out-wide-4 c = search needs
+element-copy-out-t27 : tie.Need-element-copy-out-t27
+element-copy-out-t27 c = omega arith
 
-wide-requires-4 : tie.Need-wide-requires-4
-wide-requires-4 c κs = search needs
+add-t28 : tie.Need-add-t28
+add-t28 c = omega arith
 
-add-wide-4 : tie.Need-add-wide-4
-add-wide-4 c = search needs
+mul-t29 : tie.Need-mul-t29
+mul-t29 c = omega arith
 
-mul-wide-5 : tie.Need-mul-wide-5
-mul-wide-5 c = search needs
+element-copy-out-t32 : tie.Need-element-copy-out-t32
+element-copy-out-t32 c = omega arith
 
-element-copy-out-wide-5 : tie.Need-element-copy-out-wide-5
-element-copy-out-wide-5 c = search needs
+add-t33 : tie.Need-add-t33
+add-t33 c = omega arith
 
-wide-requires-5 : tie.Need-wide-requires-5
-wide-requires-5 c κs = search needs
+mul-t34 : tie.Need-mul-t34
+mul-t34 c = omega arith
 
-add-wide-5 : tie.Need-add-wide-5
-add-wide-5 c = search needs
-
-mul-wide-6 : tie.Need-mul-wide-6
-mul-wide-6 c = search needs
-
-element-copy-out-wide-6 : tie.Need-element-copy-out-wide-6
-element-copy-out-wide-6 c = search needs
-
-wide-requires-6 : tie.Need-wide-requires-6
-wide-requires-6 c κs = search needs
-
-add-wide-6 : tie.Need-add-wide-6
-add-wide-6 c = search needs
-
-mul-wide-7 : tie.Need-mul-wide-7
-mul-wide-7 c = search needs
-
-element-copy-out-wide-7 : tie.Need-element-copy-out-wide-7
-element-copy-out-wide-7 c = search needs
-
-wide-requires-7 : tie.Need-wide-requires-7
-wide-requires-7 c κs = search needs
+element-copy-out-t37 : tie.Need-element-copy-out-t37
+element-copy-out-t37 c = omega arith
 
 returns : tie.Need-returns
 unfolding segmentOf
-returns c = λ i. record {
-  length = (c .before .before .before .before .before .before .before .before .before .before .before .before .wide .ensures) i;
-  lanes = (c .before .before .before .before .before .before .before .before .before .before .wide2 .ensures) i;
-  speed = (c .before .before .before .before .before .before .before .before .wide3 .ensures) i;
-  capacity = (c .before .before .before .before .before .before .wide4 .ensures) i;
-  onramp = (c .before .before .before .before .wide5 .ensures) i;
-  share = (c .before .before .wide6 .ensures) i;
-  offramp = (c .wide7 .ensures) i;
-}
+returns c = refl
 
 pub segment-at-spec : {M : Type 1} → statement M
 segment-at-spec =
@@ -109,31 +81,24 @@ segment-at-spec =
     (tie.spec
     mul-k
     add-k
-    mul-wide
-    element-copy-out-wide
-    wide-requires
-    add-wide
-    mul-wide-2
-    element-copy-out-wide-2
-    wide-requires-2
-    add-wide-2
-    mul-wide-3
-    element-copy-out-wide-3
-    wide-requires-3
-    add-wide-3
-    mul-wide-4
-    element-copy-out-wide-4
-    wide-requires-4
-    add-wide-4
-    mul-wide-5
-    element-copy-out-wide-5
-    wide-requires-5
-    add-wide-5
-    mul-wide-6
-    element-copy-out-wide-6
-    wide-requires-6
-    add-wide-6
-    mul-wide-7
-    element-copy-out-wide-7
-    wide-requires-7
+    mul-t4
+    element-copy-out-t7
+    add-t8
+    mul-t9
+    element-copy-out-t12
+    add-t13
+    mul-t14
+    element-copy-out-t17
+    add-t18
+    mul-t19
+    element-copy-out-t22
+    add-t23
+    mul-t24
+    element-copy-out-t27
+    add-t28
+    mul-t29
+    element-copy-out-t32
+    add-t33
+    mul-t34
+    element-copy-out-t37
     returns)

@@ -15,6 +15,9 @@ Inv-loop row ns sum₀ i₀ sum i = (i ≤ ns) × (ns ≡ conditionsIn row .segm
 abbrev μ-loop : tie.MeasureT-loop
 μ-loop row ns sum₀ i₀ sum i = ns - i
 
+ramp-small : (c : tie.After-in-force-at Inv-loop μ-loop) → c .in-force-at .result .demand ≤ 10000
+ramp-small c = rw (c .in-force-at .ensures) (c .before .before .before .before .pre .place (c .before .before .loop .i) (omega (arith, c .before .before .loop .inv)) .demand)
+
 segments-in-requires : tie.Need-segments-in-requires Inv-loop μ-loop
 segments-in-requires c κs = tt
 
@@ -26,7 +29,7 @@ in-force-at-requires : tie.Need-in-force-at-requires Inv-loop μ-loop
 in-force-at-requires c κs = let l = c .before .before .before .pre .segments .1 in (omega (arith, c .before .loop .inv), omega (arith, c .before .loop .inv))
 
 add-sum : tie.Need-add-sum Inv-loop μ-loop
-add-sum c = let d : c .before .in-force-at .result .demand ≤ 10000 = rw (c .before .in-force-at .ensures) (c .before .before .before .before .before .pre .place (c .before .before .before .loop .i) (omega (arith, c .before .before .before .loop .inv)) .demand) in omega (arith, c .before .before .before .loop .inv, c .before .before .before .before .before .pre .segments .1)
+add-sum c = omega (arith, ramp-small (c .before), c .before .before .before .loop .inv, c .before .before .before .before .before .pre .segments .1)
 
 add-i : tie.Need-add-i Inv-loop μ-loop
 add-i c = omega (arith, c .before .before .before .loop .inv, c .before .before .before .before .before .pre .segments .1)
@@ -35,31 +38,17 @@ loop-less : tie.Need-loop-less Inv-loop μ-loop
 loop-less c = omega (arith, c .before .before .before .loop .inv, c .before .before .before .before .before .pre .segments .1)
 
 loop-again : tie.Need-loop-again Inv-loop μ-loop
-loop-again c = let d : c .before .in-force-at .result .demand ≤ 10000 = rw (c .before .in-force-at .ensures) (c .before .before .before .before .before .pre .place (c .before .before .before .loop .i) (omega (arith, c .before .before .before .loop .inv)) .demand) in (omega arith, c .before .before .before .loop .inv .1, omega (arith, c .before .before .before .loop .inv), sum-more (λ j. inForceAt (conditionsIn (c .before .before .before .before .before .args .row .now)) j .demand) _ _ _ (c .before .before .before .loop .inv .3) (rw (c .before .in-force-at .ensures)))
+loop-again c = (omega arith, c .before .before .before .loop .inv .1, omega (arith, ramp-small (c .before), c .before .before .before .loop .inv), sum-more (λ j. inForceAt (conditionsIn (c .before .before .before .before .before .args .row .now)) j .demand) _ _ _ (c .before .before .before .loop .inv .3) (rw (c .before .in-force-at .ensures)))
 
 demand-in-requires : tie.Need-demand-in-requires Inv-loop μ-loop
 demand-in-requires c κs = tt
 
 add-result : tie.Need-add-result Inv-loop μ-loop
-add-result c = let d : c .demand-in .result ≤ 20000 = rw (c .demand-in .ensures) (c .before .before .before .before .pre .demand) in omega (arith, c .before .before .loop .inv, c .before .before .before .before .pre .segments .1)
+add-result c = omega (arith, c .demand-in .ensures, c .before .before .before .before .pre .demand, c .before .before .loop .inv, c .before .before .before .before .pre .segments .1)
 
 returns : tie.Need-returns Inv-loop μ-loop
 unfolding arrivedOf
 returns c = let e : c .before .before .loop .i ≡ conditionsIn (c .before .before .before .before .args .row .now) .segments = omega (arith, c .before .before .loop .inv) in rw (c .before .before .loop .inv .3, c .demand-in .ensures, e)
 
 pub arrived-spec : {M : Type 1} → statement M
-arrived-spec =
-    tie.close
-    (tie.spec
-    Inv-loop
-    μ-loop
-    segments-in-requires
-    loop-holds
-    in-force-at-requires
-    add-sum
-    add-i
-    loop-less
-    loop-again
-    demand-in-requires
-    add-result
-    returns)
+arrived-spec = tie.close (tie.spec Inv-loop μ-loop segments-in-requires loop-holds in-force-at-requires add-sum add-i loop-less loop-again demand-in-requires add-result returns)

@@ -1,17 +1,23 @@
 -- What is in force there, D, Y0 by it, what goes on of that, and the test.
 use native.Mathlib.Omega.{arith}
+use mathlib.Core.Path.{_≡_}
+use Rattle.steps.specs.Rules.{wishToLeave}
 use Rattle.steps.specs.Formulas.{wish-most-capacity}
 use Rattle.steps.specs.Split.{most-leaving-most}
 use Rattle.steps.specs.Place.{wishOf, mostOf, onwardOf, queuedOf, sentOf}
-use Rattle.steps.specs.Passing.{good-here, fits-split}
+use Rattle.steps.specs.Passing.{good-here, short-here, fits-split}
 use Rattle.steps.proofs.sent_at.Statement.{statement}
 use Rattle.steps.proofs.sent_at.Tie as tie
 
-in-force-at-requires : tie.Need-in-force-at-requires
-in-force-at-requires c κs = let p = c .pre in (omega (arith, p .1, p .0 .segments .1), p .1)
+-- D, by the reach of what is in force there
+wish-is : (c : tie.After-wish-to-leave) → c .wish-to-leave .result ≡ wishToLeave (c .before .before .before .before .args .cell .n) (c .before .before .before .in-force-at .result .capacity) (c .before .before .before .in-force-at .result .speed) (c .before .before .before .in-force-at .result .length)
+wish-is c = c .wish-to-leave .ensures _ (short-here _ _ _ (c .before .before .before .in-force-at .ensures) (c .before .before .shortcuts-at .ensures) .0)
 
-wide-requires : tie.Need-wide-requires
-wide-requires c κs = tt
+in-force-at-requires : tie.Need-in-force-at-requires
+in-force-at-requires c κs = let p = c .pre in (omega (arith, p .2, p .0 .segments .1), p .2)
+
+shortcuts-at-requires : tie.Need-shortcuts-at-requires
+shortcuts-at-requires c κs = let p = c .before .pre in (omega (arith, p .2, p .0 .segments .1), p .2, p .1)
 
 split-of-requires : tie.Need-split-of-requires
 split-of-requires c κs = tt
@@ -19,40 +25,26 @@ split-of-requires c κs = tt
 wish-to-leave-requires : tie.Need-wish-to-leave-requires
 wish-to-leave-requires c κs =
     let p = c .before .before .before .pre in
-    let g = good-here _ _ _ (p .0) (p .1) (c .before .before .in-force-at .ensures) in
-    (omega (arith, c .before .wide .ensures .0, p .2 .parts), g .capacity, g .speed, g .length .0, g .length .1)
+    let g = good-here _ _ _ (p .0) (p .2) (c .before .before .in-force-at .ensures) in
+    (p .3 .parts, g .capacity, omega (arith, short-here _ _ _ (c .before .before .in-force-at .ensures) (c .before .shortcuts-at .ensures) .0, g .speed), g .length .0, g .length .1)
 
 most-leaving-requires : tie.Need-most-leaving-requires
 most-leaving-requires c κs =
     let p = c .before .before .before .before .pre in
     let here = c .before .before .before .in-force-at .result in
-    let g = good-here _ _ _ (p .0) (p .1) (c .before .before .before .in-force-at .ensures) in (
-      fits-split here _ _ (c .before .split-of .ensures) g (p .2),
-      g .offramp,
-      omega (arith, c .wish-to-leave .ensures, wish-most-capacity (c .before .before .wide .result) (here .capacity) (here .speed) (here .length), g .capacity),
-    )
+    let g = good-here _ _ _ (p .0) (p .2) (c .before .before .before .in-force-at .ensures) in
+    (fits-split _ _ _ (c .before .split-of .ensures) g (p .3), g .offramp, omega (arith, wish-is c, wish-most-capacity (c .before .before .before .before .args .cell .n) (here .capacity) (here .speed) (here .length), g .capacity))
 
 through-of-requires : tie.Need-through-of-requires
 through-of-requires c κs =
     let p = c .before .before .before .before .before .pre in
     let here = c .before .before .before .before .in-force-at .result in
-    let g = good-here _ _ _ (p .0) (p .1) (c .before .before .before .before .in-force-at .ensures) in (
-      fits-split here _ _ (c .before .before .split-of .ensures) g (p .2),
-      omega (arith, c .most-leaving .ensures, most-leaving-most (c .before .before .split-of .result) (here .offramp) (c .before .wish-to-leave .result), c .before .wish-to-leave .ensures, wish-most-capacity (c .before .before .before .wide .result) (here .capacity) (here .speed) (here .length), g .capacity),
-    )
+    let g = good-here _ _ _ (p .0) (p .2) (c .before .before .before .before .in-force-at .ensures) in
+    (fits-split _ _ _ (c .before .before .split-of .ensures) g (p .3), omega (arith, c .most-leaving .ensures, most-leaving-most (c .before .before .split-of .result) (here .offramp) (c .before .wish-to-leave .result), wish-is (c .before), wish-most-capacity (c .before .before .before .before .before .args .cell .n) (here .capacity) (here .speed) (here .length), g .capacity))
 
 returns : tie.Need-returns
 unfolding sentOf onwardOf queuedOf mostOf wishOf
-returns c = rw (← c .before .before .before .before .before .before .in-force-at .ensures) (cc)
+returns c = let w = wish-is (c .before .before .before .before) in rw (← c .before .before .before .before .before .before .before .in-force-at .ensures) (cc)
 
 pub sent-at-spec : {M : Type 1} → statement M
-sent-at-spec =
-    tie.close
-    (tie.spec
-    in-force-at-requires
-    wide-requires
-    split-of-requires
-    wish-to-leave-requires
-    most-leaving-requires
-    through-of-requires
-    returns)
+sent-at-spec = tie.close (tie.spec in-force-at-requires shortcuts-at-requires split-of-requires wish-to-leave-requires most-leaving-requires through-of-requires returns)

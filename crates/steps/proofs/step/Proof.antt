@@ -1,26 +1,88 @@
 -- The pass: its invariant is Passing, its turns are turned, and its end is done.
-use Prim.Native.Nat.{_<_, _-_, _+_}
-use mathlib.Core.Path.{_≡_, sym, _∙_}
+use Prim.Native.Nat.{ℕ, _<_, _≤_, _-_, _+_}
+use mathlib.Core.Path.{_≡_, refl, sym, _∙_}
 use native.Mathlib.Omega.{arith}
-use lib.ListN.{length, length-map}
+use lib.Dec.{ltb}
+use Rattle.conditions.specs.Conditions.{Conditions, inForceAt}
 use Rattle.conditions.specs.Row.{conditionsIn}
-use Rattle.steps.specs.Passing.{Passing, first-fits, left-small, movable-at, started, turned, done}
+use Rattle.conditions.specs.Values.{values-length}
+use Rattle.steps.specs.declared.State.{State}
+use Rattle.steps.specs.Place.{sentOf, inflowOf, leavingOf, movedOf}
+use Rattle.steps.specs.Step.{cellIn}
+use Rattle.steps.specs.CellRow.{cellAt, stateIn, cell-in}
+use Rattle.steps.specs.Laws.{main-wished}
+use Rattle.steps.specs.Passing.{Passing, first-fits, started, still, left-small, sent-small, moved-off, movable-at, turned, done}
 use Rattle.steps.proofs.step.Statement.{statement}
 use Rattle.steps.proofs.step.Tie as tie
 
+-- whatever the exit's flow in the step before was, since no rule asks for it
 abbrev Inv-loop : tie.InvT-loop
-Inv-loop row state last origin wish cells₀ flow₀ waiting left₀ i₀ cells flow left i = Passing (conditionsIn row) state last waiting cells flow left i
+Inv-loop row cells₀ last queue wish flow₀ origin left₀ i₀ cells flow left i = (exit : ℕ) → Passing (conditionsIn row) (stateIn cells₀ (record { origin = queue; exit = exit })) last origin cells flow left i
 
 abbrev μ-loop : tie.MeasureT-loop
-μ-loop row state last origin wish cells₀ flow₀ waiting left₀ i₀ cells flow left i = last - i
+μ-loop row cells₀ last queue wish flow₀ origin left₀ i₀ cells flow left i = last - i
+
+-- the conditions and the state at the function's start
+abbrev conditions : tie.Start Inv-loop μ-loop → Conditions
+conditions s = conditionsIn (s .args .row .now)
+
+abbrev state : tie.Start Inv-loop μ-loop → State
+state s = stateIn (s .args .cells .now) (s .args .ends)
 
 -- where the loop begins, the function began
 abbrev entry : tie.At-loop Inv-loop μ-loop → tie.Start Inv-loop μ-loop
-entry at = at .before .before .before .before .before .before .before .before
+entry at = at .before .before .before .before .before .before .before
 
--- an array of 64 cells has 64
-cells-long : (c : tie.Start Inv-loop μ-loop) → length (c .args .t2 .cells) ≡ 64
-cells-long c = sym (length-map (c .args .t2 .cells) _) ∙ c .good .1 .0 .1 .1 .0 .1 .0 .1
+-- the invariant, of the state at the start
+passing : (at : tie.At-loop Inv-loop μ-loop) → Passing (conditions (entry at)) (state (entry at)) (at .before .before .before .before .before .before .segments-in .result - 1) (entry at .args .ends .origin + at .before .before .before .before .before .demand-in .result - at .before .before .flow-at .result .main) (at .loop .cells) (at .loop .flow) (at .loop .left) (at .loop .i)
+passing at = at .loop .inv (entry at .args .ends .exit)
+
+below : (at : tie.At-loop Inv-loop μ-loop) → (at .loop .i < conditions (entry at) .segments) × (at .loop .i < 64)
+below at = (omega (arith, passing at .within, passing at .last-one), omega (arith, passing at .within, passing at .last-one, entry at .pre .0 .segments .1))
+
+-- the cells that are read are those of the start
+first-cell : (c : tie.After-cell-at Inv-loop μ-loop) → c .cell-at .result ≡ cellIn (state (c .before .before .before .before)) 0
+first-cell c = c .cell-at .ensures ∙ sym (cell-in (c .before .before .before .before .args .cells .now) (c .before .before .before .before .args .ends) 0 (omega arith))
+
+cell-2 : (c : tie.After-cell-at2 Inv-loop μ-loop) → c .cell-at2 .result ≡ cellIn (state (entry (c .before .before .before))) (c .before .before .before .loop .i)
+cell-2 c = c .cell-at2 .ensures ∙ still _ _ _ _ _ _ _ _ (passing (c .before .before .before)) _ (omega arith) (below (c .before .before .before) .1)
+
+next-below : (c : tie.In-loop Inv-loop μ-loop) → (c .before .loop .i + 1 < conditions (entry (c .before)) .segments) × (c .before .loop .i + 1 < 64)
+next-below c = (omega (arith, c .loop-test .taken, passing (c .before) .last-one), omega (arith, c .loop-test .taken, passing (c .before) .last-one, entry (c .before) .pre .0 .segments .1))
+
+cell-3 : (c : tie.After-cell-at3 Inv-loop μ-loop) → c .cell-at3 .result ≡ cellIn (state (entry (c .before .before .before .before .before .before))) (c .before .before .before .before .before .before .loop .i + 1)
+cell-3 c = c .cell-at3 .ensures ∙ still _ _ _ _ _ _ _ _ (passing (c .before .before .before .before .before .before)) _ (omega arith) (next-below (c .before .before .before .before .before) .1)
+
+cell-4 : (c : tie.After-cell-at4 Inv-loop μ-loop) → c .cell-at4 .result ≡ cellIn (state (entry (c .before .before .before .before .before .before .before .before .before))) (c .before .before .before .before .before .before .before .before .before .loop .i)
+cell-4 c = c .cell-at4 .ensures ∙ still _ _ _ _ _ _ _ _ (passing (c .before .before .before .before .before .before .before .before .before)) _ (omega arith) (below (c .before .before .before .before .before .before .before .before .before) .1)
+
+cell-5 : (c : tie.After-cell-at5 Inv-loop μ-loop) → c .cell-at5 .result ≡ cellIn (state (entry (c .before .before .before))) (c .before .before .before .loop .i)
+cell-5 c = c .cell-at5 .ensures ∙ still _ _ _ _ _ _ _ _ (passing (c .before .before .before)) _ (omega arith) (below (c .before .before .before) .1)
+
+cell-6 : (c : tie.After-cell-at6 Inv-loop μ-loop) → c .cell-at6 .result ≡ cellIn (state (entry (c .before .before .before .before .before .before .before .before))) (c .before .before .before .before .before .before .before .before .loop .i)
+cell-6 c = c .cell-at6 .ensures ∙ still _ _ _ _ _ _ _ _ (passing (c .before .before .before .before .before .before .before .before)) _ (omega arith) (below (c .before .before .before .before .before .before .before .before) .1)
+
+-- so that each call answers by the rules of the state at the start
+entering : (c : tie.After-flow-at Inv-loop μ-loop) → c .flow-at .result ≡ inflowOf (inForceAt (conditions (c .before .before .before .before .before)) 0) (cellIn (state (c .before .before .before .before .before)) 0) (c .before .before .before .before .before .args .ends .origin + c .before .before .before .demand-in .result) (ltb 0 (c .before .before .before .before .before .args .ends .origin))
+entering c = rw (first-cell (c .before)) at (c .flow-at .ensures)
+
+sending : (c : tie.After-sent-at Inv-loop μ-loop) → c .sent-at .result ≡ sentOf (inForceAt (conditions (entry (c .before .before .before .before))) (c .before .before .before .before .loop .i)) (cellIn (state (entry (c .before .before .before .before))) (c .before .before .before .before .loop .i))
+sending c = rw (cell-2 (c .before)) at (c .sent-at .ensures)
+
+flowing : (c : tie.After-flow-at2 Inv-loop μ-loop) → c .flow-at2 .result ≡ inflowOf (inForceAt (conditions (entry (c .before .before .before .before .before .before .before))) (c .before .before .before .before .before .before .before .loop .i + 1)) (cellIn (state (entry (c .before .before .before .before .before .before .before))) (c .before .before .before .before .before .before .before .loop .i + 1)) (c .before .before .before .sent-at .result .wish) (c .before .before .before .sent-at .result .queued)
+flowing c = rw (cell-3 (c .before)) at (c .flow-at2 .ensures)
+
+moving : (c : tie.After-moved-at Inv-loop μ-loop) → c .moved-at .result ≡ movedOf (inForceAt (conditions (entry (c .before .before .before .before .before .before .before .before .before .before))) (c .before .before .before .before .before .before .before .before .before .before .loop .i)) (cellIn (state (entry (c .before .before .before .before .before .before .before .before .before .before))) (c .before .before .before .before .before .before .before .before .before .before .loop .i)) (c .before .before .before .before .before .before .before .before .before .before .loop .flow) (leavingOf (inForceAt (conditions (entry (c .before .before .before .before .before .before .before .before .before .before))) (c .before .before .before .before .before .before .before .before .before .before .loop .i)) (cellIn (state (entry (c .before .before .before .before .before .before .before .before .before .before))) (c .before .before .before .before .before .before .before .before .before .before .loop .i)) (c .before .before .before .flow-at2 .result .main))
+moving c = rw (cell-4 (c .before)) at (c .moved-at .ensures)
+
+sending-2 : (c : tie.After-sent-at2 Inv-loop μ-loop) → c .sent-at2 .result ≡ sentOf (inForceAt (conditions (entry (c .before .before .before .before))) (c .before .before .before .before .loop .i)) (cellIn (state (entry (c .before .before .before .before))) (c .before .before .before .before .loop .i))
+sending-2 c = rw (cell-5 (c .before)) at (c .sent-at2 .ensures)
+
+moving-2 : (c : tie.After-moved-at2 Inv-loop μ-loop) → c .moved-at2 .result ≡ movedOf (inForceAt (conditions (entry (c .before .before .before .before .before .before .before .before .before))) (c .before .before .before .before .before .before .before .before .before .loop .i)) (cellIn (state (entry (c .before .before .before .before .before .before .before .before .before))) (c .before .before .before .before .before .before .before .before .before .loop .i)) (c .before .before .before .before .before .before .before .before .before .loop .flow) (leavingOf (inForceAt (conditions (entry (c .before .before .before .before .before .before .before .before .before))) (c .before .before .before .before .before .before .before .before .before .loop .i)) (cellIn (state (entry (c .before .before .before .before .before .before .before .before .before))) (c .before .before .before .before .before .before .before .before .before .loop .i)) (c .before .before .before .least .result))
+moving-2 c = rw (cell-6 (c .before)) at (c .moved-at2 .ensures)
+
+left-off : (at : tie.At-loop Inv-loop μ-loop) → at .loop .left ≤ 640000
+left-off at = left-small _ _ _ _ _ _ _ _ (passing at) (entry at .pre .0) (entry at .pre .3)
 
 segments-in-requires : tie.Need-segments-in-requires Inv-loop μ-loop
 segments-in-requires c κs = tt
@@ -28,85 +90,89 @@ segments-in-requires c κs = tt
 sub-last : tie.Need-sub-last Inv-loop μ-loop
 sub-last c = omega (arith, c .segments-in .ensures, c .before .pre .0 .segments .0)
 
-wide-requires : tie.Need-wide-requires Inv-loop μ-loop
-wide-requires c κs = tt
-
 demand-in-requires : tie.Need-demand-in-requires Inv-loop μ-loop
 demand-in-requires c κs = tt
 
 add-wish : tie.Need-add-wish Inv-loop μ-loop
-add-wish c = omega (arith, c .demand-in .ensures, c .before .before .before .pre .0 .demand)
+add-wish c = omega (arith, c .demand-in .ensures, c .before .before .pre .0 .demand, c .before .before .pre .3 .origin)
 
-element-copy-out-flow-at : tie.Need-element-copy-out-flow-at Inv-loop μ-loop
-element-copy-out-flow-at c = omega arith
+cell-at-requires : tie.Need-cell-at-requires Inv-loop μ-loop
+cell-at-requires c κs = omega arith
 
 flow-at-requires : tie.Need-flow-at-requires Inv-loop μ-loop
-flow-at-requires c κs = let p = c .before .before .before .before .before .pre in (p .0, p .0 .segments .0, p .1 .cells 0 (p .0 .segments .0))
+flow-at-requires c κs =
+    let p = c .before .before .before .before .pre in
+    (p .0, p .1, p .0 .segments .0, rw (first-cell c) (p .3 .cells 0 (p .0 .segments .0)), omega (arith, c .before .before .demand-in .ensures, p .0 .demand, p .3 .origin))
 
-sub-waiting : tie.Need-sub-waiting Inv-loop μ-loop
-sub-waiting c = first-fits (conditionsIn (c .before .before .before .before .before .before .before .args .row .now)) (c .before .before .before .before .before .before .before .args .t2) _ _ _ (c .before .before .before .before .before .before .before .pre .0) (c .before .before .before .before .before .wide .ensures .0) (c .before .before .before .before .demand-in .ensures) (c .before .flow-at .ensures)
+sub-origin : tie.Need-sub-origin Inv-loop μ-loop
+sub-origin c = first-fits (conditions (c .before .before .before .before .before .before)) (state (c .before .before .before .before .before .before)) _ _ (c .before .before .before .before .before .before .pre .0) (c .before .before .before .before .demand-in .ensures) (entering (c .before))
 
 loop-holds : tie.Need-loop-holds Inv-loop μ-loop
-loop-holds c = started _ (c .before .before .before .before .before .before .before .args .t2) _ _ _ (c .before .before .before .before .before .before .before .pre .0) (c .before .before .before .before .before .wide .ensures .0) (c .before .before .before .before .demand-in .ensures) (c .before .flow-at .ensures) _ (rw (c .before .before .before .before .before .before .segments-in .ensures))
+loop-holds c = λ exit. started (conditions (c .before .before .before .before .before .before)) _ _ _ (c .before .before .before .before .before .before .pre .0) (c .before .before .before .before .demand-in .ensures) (entering (c .before)) _ _ (rw (c .before .before .before .before .before .segments-in .ensures)) (c .before .before .before .before .before .before .pre .2) refl
 
-mul-cell : tie.Need-mul-cell Inv-loop μ-loop
-mul-cell c = let at = c .before in let start = entry at in omega (arith, at .loop .inv, start .pre .0 .segments .1)
-
-element-copy-out-cell : tie.Need-element-copy-out-cell Inv-loop μ-loop
-element-copy-out-cell c = let at = c .before in let start = entry at in omega (arith, at .loop .inv, start .pre .0 .segments .1)
+cell-at-requires-2 : tie.Need-cell-at-requires-2 Inv-loop μ-loop
+cell-at-requires-2 c κs = below (c .before .before) .1
 
 sent-at-requires : tie.Need-sent-at-requires Inv-loop μ-loop
-sent-at-requires c κs = let at = c .before .before in let start = entry at in let h = at .loop .inv .last-one in let l : at .loop .i < conditionsIn (start .args .row .now) .segments = omega arith in (start .pre .0, l, start .pre .1 .cells _ l)
+sent-at-requires c κs =
+    let at = c .before .before .before in
+    let p = entry at .pre in
+    (p .0, p .1, below at .0, rw (cell-2 c) (p .3 .cells _ (below at .0)))
 
 add-flow-at : tie.Need-add-flow-at Inv-loop μ-loop
-add-flow-at c = let at = c .before .before .before in let start = entry at in omega (arith, at .loop .inv, start .pre .0 .segments .1)
+add-flow-at c = omega (arith, below (c .before .before .before .before) .1)
 
-add-flow-at-2 : tie.Need-add-flow-at-2 Inv-loop μ-loop
-add-flow-at-2 c = let at = c .before .before .before in let start = entry at in omega (arith, at .loop .inv, start .pre .0 .segments .1)
+add-cell-at : tie.Need-add-cell-at Inv-loop μ-loop
+add-cell-at c = omega (arith, below (c .before .before .before .before .before) .1)
 
-mul-flow-at : tie.Need-mul-flow-at Inv-loop μ-loop
-mul-flow-at c = let at = c .before .before .before in let start = entry at in omega (arith, at .loop .inv, start .pre .0 .segments .1)
-
-element-copy-out-flow-at-2 : tie.Need-element-copy-out-flow-at-2 Inv-loop μ-loop
-element-copy-out-flow-at-2 c = let at = c .before .before .before in let start = entry at in omega (arith, at .loop .inv, start .pre .0 .segments .1)
+cell-at-requires-3 : tie.Need-cell-at-requires-3 Inv-loop μ-loop
+cell-at-requires-3 c κs = next-below (c .before .before .before .before) .1
 
 flow-at-requires-2 : tie.Need-flow-at-requires-2 Inv-loop μ-loop
-flow-at-requires-2 c κs = let at = c .before .before .before .before in let start = entry at in let h = at .loop .inv .last-one in let l : at .loop .i + 1 < conditionsIn (start .args .row .now) .segments = omega arith in (start .pre .0, l, start .pre .1 .cells _ l)
+flow-at-requires-2 c κs =
+    let at = c .before .before .before .before .before .before in
+    let p = entry at .pre in
+    let n = next-below (c .before .before .before .before .before) .0 in
+    (p .0, p .1, n, rw (cell-3 c) (p .3 .cells _ n), omega (arith, sent-small _ _ _ (sending (c .before .before)) (p .0 .place _ (below at .0)) .1))
+
+cell-at-requires-4 : tie.Need-cell-at-requires-4 Inv-loop μ-loop
+cell-at-requires-4 c κs = below (c .before .before .before .before .before .before .before .before) .1
 
 moved-at-requires : tie.Need-moved-at-requires Inv-loop μ-loop
-moved-at-requires c κs = let at = c .before .before .before .before .before in let start = entry at in let h = at .loop .inv .last-one in let l : at .loop .i < conditionsIn (start .args .row .now) .segments = omega arith in (omega (arith, start .pre .0 .segments .1), l, movable-at _ (start .args .t2) (start .pre .0) (start .pre .1) _ _ _ l (at .loop .inv .flow-is) (c .before .before .sent-at .ensures))
-
-wide-requires-2 : tie.Need-wide-requires-2 Inv-loop μ-loop
-wide-requires-2 c κs = tt
+moved-at-requires c κs =
+    let at = c .before .before .before .before .before .before .before .before .before in
+    let p = entry at .pre in
+    let fits : c .before .before .flow-at2 .result .main ≤ c .before .before .before .before .before .sent-at .result .wish = rw (flowing (c .before .before)) (main-wished _ _ _ _) in
+    (below at .1, below at .0, rw (cell-4 c) (movable-at _ _ (p .0) (p .3) _ _ _ _ (below at .0) (passing at .flow-is) (sending (c .before .before .before .before .before)) fits))
 
 add-left : tie.Need-add-left Inv-loop μ-loop
-add-left c = let at = c .before .before .before .before .before .before .before in let start = entry at in omega (arith, c .wide2 .ensures .1, left-small _ _ _ _ _ _ _ _ (at .loop .inv) (start .pre .0) (start .pre .1))
+add-left c =
+    let at = c .before .before .before .before .before .before .before .before .before .before .before in
+    let p = entry at .pre in
+    omega (arith, left-off at, moved-off _ _ _ _ _ (p .0 .place _ (below at .0)) (p .3 .cells _ (below at .0)) (moving (c .before)))
 
-mul-cells : tie.Need-mul-cells Inv-loop μ-loop
-mul-cells c = let at = c .before .before .before .before .before .before .before in let start = entry at in omega (arith, at .loop .inv, start .pre .0 .segments .1)
-
-array-set-from-cells : tie.Need-array-set-from-cells Inv-loop μ-loop
-array-set-from-cells c = let at = c .before .before .before .before .before .before .before in let start = entry at in omega (arith, at .loop .inv, start .pre .0 .segments .1)
+put-cell-requires : tie.Need-put-cell-requires Inv-loop μ-loop
+put-cell-requires c κs = omega (arith, next-below (c .before .before .before .before .before .before .before .before .before .before .before) .1)
 
 add-i : tie.Need-add-i Inv-loop μ-loop
-add-i c = let at = c .before .before .before .before .before .before .before in let start = entry at in omega (arith, at .loop .inv, start .pre .0 .segments .1)
+add-i c = omega (arith, below (c .before .before .before .before .before .before .before .before .before .before .before .before .before) .1)
 
 loop-less : tie.Need-loop-less Inv-loop μ-loop
-loop-less c = let at = c .before .before .before .before .before .before .before in let start = entry at in omega (arith, at .loop .inv)
+loop-less c = omega (arith, c .before .before .before .before .before .before .before .before .before .before .before .before .loop-test .taken)
 
 loop-again : tie.Need-loop-again Inv-loop μ-loop
 loop-again c =
-    let at = c .before .before .before .before .before .before .before in
-    turned _ _ _ _ _ _ _ _ (at .loop .inv) _ (c .before .before .before .before .sent-at .ensures) _ _ _ (c .before .before .before .before .before .before .loop-test .taken) (c .before .before .flow-at2 .ensures) (c .before .moved-at .ensures) (c .wide2 .ensures .0)
+    λ exit. rw (c .put-cell .ensures)
+    (turned _ _ _ _ _ _ _ _ (c .before .before .before .before .before .before .before .before .before .before .before .before .before .loop .inv exit) _ (sending (c .before .before .before .before .before .before .before .before .before)) (below (c .before .before .before .before .before .before .before .before .before .before .before .before .before) .1) _ _ (c .before .before .before .before .before .before .before .before .before .before .before .before .loop-test .taken) (flowing (c .before .before .before .before .before .before)) (moving (c .before .before .before)))
 
-mul-cell-2 : tie.Need-mul-cell-2 Inv-loop μ-loop
-mul-cell-2 c = let at = c .before in let start = entry at in omega (arith, at .loop .inv, start .pre .0 .segments .1)
-
-element-copy-out-cell-2 : tie.Need-element-copy-out-cell-2 Inv-loop μ-loop
-element-copy-out-cell-2 c = let at = c .before in let start = entry at in omega (arith, at .loop .inv, start .pre .0 .segments .1)
+cell-at-requires-5 : tie.Need-cell-at-requires-5 Inv-loop μ-loop
+cell-at-requires-5 c κs = below (c .before .before) .1
 
 sent-at-requires-2 : tie.Need-sent-at-requires-2 Inv-loop μ-loop
-sent-at-requires-2 c κs = let at = c .before .before in let start = entry at in let h = at .loop .inv .last-one in let l : at .loop .i < conditionsIn (start .args .row .now) .segments = omega (arith, at .loop .inv .within) in (start .pre .0, l, start .pre .1 .cells _ l)
+sent-at-requires-2 c κs =
+    let at = c .before .before .before in
+    let p = entry at .pre in
+    (p .0, p .1, below at .0, rw (cell-5 c) (p .3 .cells _ (below at .0)))
 
 exit-in-requires : tie.Need-exit-in-requires Inv-loop μ-loop
 exit-in-requires c κs = tt
@@ -114,78 +180,36 @@ exit-in-requires c κs = tt
 least-requires : tie.Need-least-requires Inv-loop μ-loop
 least-requires c κs = tt
 
-moved-at-requires-2 : tie.Need-moved-at-requires-2 Inv-loop μ-loop
-moved-at-requires-2 c κs = let at = c .before .before .before .before .before in let start = entry at in let h = at .loop .inv .last-one in let l : at .loop .i < conditionsIn (start .args .row .now) .segments = omega (arith, at .loop .inv .within) in (omega (arith, start .pre .0 .segments .1), l, movable-at _ (start .args .t2) (start .pre .0) (start .pre .1) _ _ _ l (at .loop .inv .flow-is) (c .before .before .sent-at2 .ensures))
+cell-at-requires-6 : tie.Need-cell-at-requires-6 Inv-loop μ-loop
+cell-at-requires-6 c κs = below (c .before .before .before .before .before .before .before) .1
 
-wide-requires-3 : tie.Need-wide-requires-3 Inv-loop μ-loop
-wide-requires-3 c κs = tt
+moved-at-requires-2 : tie.Need-moved-at-requires-2 Inv-loop μ-loop
+moved-at-requires-2 c κs =
+    let at = c .before .before .before .before .before .before .before .before in
+    let p = entry at .pre in
+    (below at .1, below at .0, rw (cell-6 c) (movable-at _ _ (p .0) (p .3) _ _ _ _ (below at .0) (passing at .flow-is) (sending-2 (c .before .before .before .before)) (omega (arith, c .before .before .least .ensures))))
 
 add-left-2 : tie.Need-add-left-2 Inv-loop μ-loop
-add-left-2 c = let at = c .before .before .before .before .before .before .before in let start = entry at in omega (arith, c .wide3 .ensures .1, left-small _ _ _ _ _ _ _ _ (at .loop .inv) (start .pre .0) (start .pre .1))
+add-left-2 c =
+    let at = c .before .before .before .before .before .before .before .before .before .before in
+    let p = entry at .pre in
+    omega (arith, left-off at, moved-off _ _ _ _ _ (p .0 .place _ (below at .0)) (p .3 .cells _ (below at .0)) (moving-2 (c .before)))
 
-mul-cells-2 : tie.Need-mul-cells-2 Inv-loop μ-loop
-mul-cells-2 c = let at = c .before .before .before .before .before .before .before in let start = entry at in omega (arith, at .loop .inv, start .pre .0 .segments .1)
+put-cell-requires-2 : tie.Need-put-cell-requires-2 Inv-loop μ-loop
+put-cell-requires-2 c κs = below (c .before .before .before .before .before .before .before .before .before .before .before) .1
 
-array-set-from-cells-2 : tie.Need-array-set-from-cells-2 Inv-loop μ-loop
-array-set-from-cells-2 c = let at = c .before .before .before .before .before .before .before in let start = entry at in omega (arith, at .loop .inv, start .pre .0 .segments .1)
-
-cast-t22 : tie.Need-cast-t22 Inv-loop μ-loop
-cast-t22 c = let at = c .before .before .before .before .before .before .before in let start = entry at in omega (arith, c .before .before .before .before .before .before .before .before .before .before .before .before .before .wide .ensures .0, c .before .before .before .before .before .before .before .before .before .before .before .before .demand-in .ensures, start .pre .0 .demand, start .pre .1 .origin)
-
-cast-t45 : tie.Need-cast-t45 Inv-loop μ-loop
-cast-t45 c = let at = c .before .before .before .before .before .before .before in let start = entry at in omega (arith, c .before .before .least .ensures, c .before .before .before .exit-in .ensures, start .pre .0 .exit)
-
-add-t23 : tie.Need-add-t23 Inv-loop μ-loop
-add-t23 c = let at = c .before .before .before .before .before .before .before in let start = entry at in omega (arith, c .before .before .least .ensures, c .before .before .before .exit-in .ensures, start .pre .0 .exit, c .wide3 .ensures .1, left-small _ _ _ _ _ _ _ _ (at .loop .inv) (start .pre .0) (start .pre .1))
+add-t18 : tie.Need-add-t18 Inv-loop μ-loop
+add-t18 c =
+    let at = c .before .before .before .before .before .before .before .before .before .before .before .before in
+    let p = entry at .pre in
+    omega (arith, left-off at, c .before .before .before .before .before .before .least .ensures, c .before .before .before .before .before .before .before .exit-in .ensures, p .0 .exit, moved-off _ _ _ _ _ (p .0 .place _ (below at .0)) (p .3 .cells _ (below at .0)) (moving-2 (c .before .before .before)))
 
 returns : tie.Need-returns Inv-loop μ-loop
 returns c =
-    let at = c .before .before .before .before .before .before .before in
-    let start = entry at in
-    done _ _ _ _ _ _ _ _ (at .loop .inv) _ (c .before .before .before .before .sent-at2 .ensures) _ _ _ (start .pre .0) (start .pre .1) (omega (arith, start .pre .0 .segments .1, cells-long start)) (c .before .before .before .before .before .before .loop-test .left) (rw (c .before .before .least .ensures, c .before .before .before .exit-in .ensures)) (c .before .moved-at2 .ensures) (c .wide3 .ensures .0)
+    let at = c .before .before .before .before .before .before .before .before .before .before .before .before in
+    let p = entry at .pre in
+    rw (c .put-cell2 .ensures)
+    (done _ _ _ _ _ _ _ _ (passing at) _ (sending-2 (c .before .before .before .before .before .before .before .before)) (below at .1) _ _ (p .0) (p .3) (omega (arith, p .0 .segments .1, values-length (cellAt (entry at .args .cells .now)) 64)) (c .before .before .before .before .before .before .before .before .before .before .before .loop-test .left) (rw (c .before .before .before .before .before .before .least .ensures, c .before .before .before .before .before .before .before .exit-in .ensures)) (moving-2 (c .before .before .before)))
 
 pub step-spec : {M : Type 1} → statement M
-step-spec =
-    tie.close
-    (tie.spec
-    Inv-loop
-    μ-loop
-    segments-in-requires
-    sub-last
-    wide-requires
-    demand-in-requires
-    add-wish
-    element-copy-out-flow-at
-    flow-at-requires
-    sub-waiting
-    loop-holds
-    mul-cell
-    element-copy-out-cell
-    sent-at-requires
-    add-flow-at
-    add-flow-at-2
-    mul-flow-at
-    element-copy-out-flow-at-2
-    flow-at-requires-2
-    moved-at-requires
-    wide-requires-2
-    add-left
-    mul-cells
-    array-set-from-cells
-    add-i
-    loop-less
-    loop-again
-    mul-cell-2
-    element-copy-out-cell-2
-    sent-at-requires-2
-    exit-in-requires
-    least-requires
-    moved-at-requires-2
-    wide-requires-3
-    add-left-2
-    mul-cells-2
-    array-set-from-cells-2
-    cast-t22
-    cast-t45
-    add-t23
-    returns)
+step-spec = tie.close (tie.spec Inv-loop μ-loop segments-in-requires sub-last demand-in-requires add-wish cell-at-requires flow-at-requires sub-origin loop-holds cell-at-requires-2 sent-at-requires add-flow-at add-cell-at cell-at-requires-3 flow-at-requires-2 cell-at-requires-4 moved-at-requires add-left put-cell-requires add-i loop-less loop-again cell-at-requires-5 sent-at-requires-2 exit-in-requires least-requires cell-at-requires-6 moved-at-requires-2 add-left-2 put-cell-requires-2 add-t18 returns)

@@ -7,7 +7,7 @@ work-out-requires : tie.Need-work-out-requires
 work-out-requires c κs = (c .pre .0, c .pre .1)
 
 run-requires : tie.Need-run-requires
-run-requires c κs = let p = c .before .before .pre in (rw (c .before .work-out .ensures) (good-conditions _ _ (p .0) (under (p .1))), p .0 .segments .1, p .2)
+run-requires c κs = let p = c .before .before .pre in (rw (c .before .work-out .ensures .0) (good-conditions _ _ (p .0) (under (p .1))), c .before .work-out .ensures .1, p .0 .segments .1, p .2)
 
 returns : tie.Need-returns
 returns c = tt

@@ -15,8 +15,11 @@ abbrev μ-loop : tie.MeasureT-loop
 globals-of-road-requires : tie.Need-globals-of-road-requires Inv-loop μ-loop
 globals-of-road-requires c κs = search needs
 
+cast-ns : tie.Need-cast-ns Inv-loop μ-loop
+cast-ns c = omega (arith, c .struct-known)
+
 loop-holds : tie.Need-loop-holds Inv-loop μ-loop
-loop-holds c = let e : c .globals-of-road .result .segments ≤ 64 = rw (c .globals-of-road .ensures) (c .before .pre) in (omega arith, e)
+loop-holds c = let e : c .before .globals-of-road .result .segments ≤ 64 = rw (c .before .globals-of-road .ensures) (c .before .before .pre) in (omega arith, e)
 
 mul-cell : tie.Need-mul-cell Inv-loop μ-loop
 mul-cell c = omega (arith, c .before .loop .inv)
@@ -73,6 +76,7 @@ say-cells-spec =
     Inv-loop
     μ-loop
     globals-of-road-requires
+    cast-ns
     loop-holds
     mul-cell
     element-copy-out-cell
