@@ -1,4 +1,5 @@
-//! The benchmark: the engine against the idiomatic and the tuned version, and how the engine's cost grows. Only ratios are printed.
+//! The benchmark: the engine against the idiomatic and the tuned version, how the costs grow, and what one call costs. Only ratios
+//! are printed.
 
 use crate::model::numbers;
 use crate::outcome::Outcome;
@@ -13,6 +14,7 @@ const ROUNDS: usize = 51;
 const RUNS: usize = 5;
 const MOST_SEGMENTS: u64 = 64;
 const MOST_PERIODS: u64 = 96;
+const REPORTS: u32 = 6_400;
 
 /// Demand through the day, in percent of the usual.
 const LOAD: [u64; 18] = [30, 35, 45, 70, 95, 110, 100, 75, 60, 55, 60, 80, 105, 115, 90, 60, 45, 35];
@@ -40,28 +42,55 @@ pub fn run() -> bool {
         against("ramps rare", &rare, forecast);
     }
 
-    println!("engine's cost by segments, {MOST_PERIODS} periods, as ratio to the first");
+    println!("cost by segments, {MOST_PERIODS} periods, as ratio to the first: engine, tuned Rust");
     growth(&[8, 16, 32, 64].map(|ns| (ns, study(ns, MOST_PERIODS, Ramps::Everywhere))));
-    println!("engine's cost by periods, {MOST_SEGMENTS} segments, as ratio to the first");
+    println!("cost by periods, {MOST_SEGMENTS} segments, as ratio to the first: engine, tuned Rust");
     growth(&[12, 24, 48, 96].map(|periods| (periods, study(MOST_SEGMENTS, periods, Ramps::Everywhere))));
+    single_calls()
+}
+
+/// Times single calls at the day's peak; false where the two sides' answers differ. To the tuned version steps one by one are a run.
+fn single_calls() -> bool {
+    let sheets = sheets(MOST_SEGMENTS, LOAD.len() as u64, Ramps::Everywhere);
+    let (road, period) = (&sheets[0], &sheets[6]);
+    let one = [&road[..], period].concat();
+    let all = [&road[..], &period.repeat(MOST_PERIODS as usize)].concat();
+    let part_steps = engine::single_steps(road, period, MOST_PERIODS as u32);
+    if engine::reports(road, period, REPORTS) != tuned::reports(&one, REPORTS as usize)
+        || part_steps != tuned::forecast(&all).numbers()[6]
+    {
+        println!("the answers of single calls differ");
+        return false;
+    }
+    println!("one call, {MOST_SEGMENTS} segments, at the day's peak: engine / tuned Rust");
+    let steps = || _ = black_box(engine::single_steps(black_box(road), period, MOST_PERIODS as u32));
+    ratio(
+        "segment report",
+        || _ = black_box(engine::reports(black_box(road), period, REPORTS)),
+        || _ = black_box(tuned::reports(black_box(&one), REPORTS as usize)),
+    );
+    ratio("run of 1 step", steps, || run_other(&all, tuned::forecast));
+    println!("one call of the engine: run of 1 step / a 60th of a run of 60");
+    ratio("run of 1 step", steps, || run_engine(&all));
     true
 }
 
 type Forecast = fn(&[u8]) -> Outcome;
 
-/// Times both sides alternately, each first in every other round.
 fn against(name: &str, study: &[u8], forecast: Forecast) {
-    let other = || {
-        black_box(forecast(black_box(study)));
-    };
+    ratio(name, || run_engine(study), || run_other(study, forecast));
+}
+
+/// Times both sides alternately, each first in every other round, and prints the first's time by the second's.
+fn ratio(name: &str, engine: impl Fn(), other: impl Fn()) {
     let mut ratios = Vec::new();
     for round in 0..ROUNDS {
         let (engine, other) = if round % 2 == 0 {
-            let engine = time(|| run_engine(study));
-            (engine, time(other))
+            let engine = time(&engine);
+            (engine, time(&other))
         } else {
-            let other = time(other);
-            (time(|| run_engine(study)), other)
+            let other = time(&other);
+            (time(&engine), other)
         };
         ratios.push(engine / other);
     }
@@ -70,21 +99,26 @@ fn against(name: &str, study: &[u8], forecast: Forecast) {
     println!("  {name:<17} {middle:.2}  ({low:.2} to {high:.2})");
 }
 
-/// Times the engine on each study in turn, round by round, and prints the medians' ratios to the first. Smaller studies
-/// are run more often in a round, so that other work on the machine adds alike to all.
+/// Times the engine and the tuned version on each study in turn, round by round, and prints the medians' ratios to the first.
+/// Smaller studies are run more often in a round, so that other work on the machine adds alike to all.
 fn growth(studies: &[(u64, Vec<u8>)]) {
     let largest = studies.iter().map(|(size, _)| *size).max().unwrap_or(1);
-    let mut times = vec![Vec::new(); studies.len()];
+    let mut times = vec![(Vec::new(), Vec::new()); studies.len()];
     for _ in 0..ROUNDS {
-        for (times, (size, study)) in times.iter_mut().zip(studies) {
+        for ((engine, tuned), (size, study)) in times.iter_mut().zip(studies) {
             let often = largest / size;
-            times.push(time(|| (0..often).for_each(|_| run_engine(study))) / often as f64);
+            engine.push(time(|| (0..often).for_each(|_| run_engine(study))) / often as f64);
+            tuned.push(time(|| (0..often).for_each(|_| run_other(study, tuned::forecast))) / often as f64);
         }
     }
-    let medians = times.iter_mut().map(|times| median(times)).collect::<Vec<_>>();
-    for ((size, _), time) in studies.iter().zip(&medians) {
-        println!("  {size:>3}  {:.2}", time / medians[0]);
+    let medians = times.iter_mut().map(|(engine, tuned)| (median(engine), median(tuned))).collect::<Vec<_>>();
+    for ((size, _), (engine, tuned)) in studies.iter().zip(&medians) {
+        println!("  {size:>3}  {:.2}  {:.2}", engine / medians[0].0, tuned / medians[0].1);
     }
+}
+
+fn run_other(study: &[u8], forecast: Forecast) {
+    black_box(forecast(black_box(study)));
 }
 
 fn run_engine(study: &[u8]) {
@@ -107,31 +141,42 @@ fn median(times: &mut [f64]) -> f64 {
     times[times.len() / 2]
 }
 
-/// A day on an urban freeway: two peaks above capacity, a bottleneck two thirds along, recovery after each peak.
+/// A day on an urban freeway, as one study.
 fn study(ns: u64, periods: u64, ramps: Ramps) -> Vec<u8> {
+    sheets(ns, periods, ramps).concat()
+}
+
+/// Its sheets: two peaks above capacity, a bottleneck two thirds along, recovery after each peak.
+fn sheets(ns: u64, periods: u64, ramps: Ramps) -> Vec<Vec<u8>> {
     let mut random = Random::new(ns);
-    let mut fields = vec![ns, 190, 45, 7];
     let has_ramp = |i: u64| match ramps {
         Ramps::Everywhere => true,
         Ramps::Rare => i % 16 == 5,
     };
+    let mut road = vec![ns, 190, 45, 7];
     for i in 0..ns {
         let lanes = if i == ns * 2 / 3 { 2 } else { 3 };
         let length = random.within(600, 2_600);
-        fields.extend([length, lanes, random.within(55, 70), 2_200 * lanes]);
-        fields.extend(if has_ramp(i) { [1_800, random.within(15, 60), 1_500] } else { [0, 0, 0] });
+        road.extend([length, lanes, random.within(55, 70), 2_200 * lanes]);
+        road.extend(if has_ramp(i) { [1_800, random.within(15, 60), 1_500] } else { [0, 0, 0] });
     }
+    let mut sheets = vec![road];
     for period in 0..periods {
         let load = LOAD[(period * LOAD.len() as u64 / periods) as usize];
-        fields.extend([ns, 5_000 * load / 100, 20_000]);
+        let mut sheet = vec![ns, 5_000 * load / 100, 20_000];
         for i in 0..ns {
             let demand = random.within(100, 220) * load / 100;
-            fields.extend(if has_ramp(i) { [demand, 900] } else { [0, 0] });
+            sheet.extend(if has_ramp(i) { [demand, 900] } else { [0, 0] });
         }
+        sheets.push(sheet);
     }
+    sheets.iter().map(|fields| bytes(fields)).collect()
+}
+
+fn bytes(fields: &[u64]) -> Vec<u8> {
     let mut bytes = Vec::new();
     for field in fields {
-        numbers::write(field, &mut bytes);
+        numbers::write(*field, &mut bytes);
     }
     bytes
 }

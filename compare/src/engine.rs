@@ -1,9 +1,23 @@
-//! The engine, through its static library.
+//! The engine, through its static libraries.
 
 use crate::outcome::NUMBERS;
 
 extern "C" {
     fn freeway_forecast(study: *const u8, study_len: usize, out: *mut u64, out_len: usize) -> u64;
+    fn freeway_time_reports(road: *const u8, road_len: usize, period: *const u8, period_len: usize, times: u32) -> u64;
+    fn freeway_time_steps(road: *const u8, road_len: usize, period: *const u8, period_len: usize, periods: u32) -> u64;
+}
+
+/// Runs a period, then reports so many times, on the segments 1 to 64 in turn: the sum of their n.
+pub fn reports(road: &[u8], period: &[u8], times: u32) -> u64 {
+    // Sound: both slices are valid for their lengths, and the engine keeps neither.
+    unsafe { freeway_time_reports(road.as_ptr(), road.len(), period.as_ptr(), period.len(), times) }
+}
+
+/// So many times takes the period and makes its steps one by one: the part-steps.
+pub fn single_steps(road: &[u8], period: &[u8], periods: u32) -> u64 {
+    // Sound: as above.
+    unsafe { freeway_time_steps(road.as_ptr(), road.len(), period.as_ptr(), period.len(), periods) }
 }
 
 /// Runs a study: fills the first 200 places of `out` and gives the refusal's number, 0 for none.

@@ -4,17 +4,25 @@
 //! segments, the two "largest y" are closed forms, and no division is made whose result is known beforehand.
 
 use crate::outcome::{Forecast, Outcome, Standing};
+use std::hint::black_box;
 use std::ops::RangeInclusive;
 
 /// A whole study, from its bytes to the listing's numbers.
 pub fn forecast(study: &[u8]) -> Outcome {
     match run(study) {
-        Ok(forecast) => Outcome::Forecast(forecast),
+        Ok(facility) => Outcome::Forecast(facility.forecast()),
         Err(Refusal { number, place }) => Outcome::Refused { number, place: place as u64 },
     }
 }
 
-fn run(study: &[u8]) -> Result<Forecast, Refusal> {
+/// Runs a study, then reports so many times, on its segments in turn: the sum of their n.
+pub fn reports(study: &[u8], times: usize) -> u64 {
+    let Ok(facility) = run(study) else { return 0 };
+    let report = |i: usize| black_box(black_box(&facility.segments[i % facility.segments.len()]).standing()).n;
+    (0..times).map(report).sum()
+}
+
+fn run(study: &[u8]) -> Result<Facility, Refusal> {
     let mut reader = Reader { bytes: study, place: 0 };
     let mut facility = Facility::lay(&mut reader)?;
     let mut periods = 0;
@@ -28,7 +36,7 @@ fn run(study: &[u8]) -> Result<Forecast, Refusal> {
         }
         periods += 1;
     }
-    Ok(facility.forecast())
+    Ok(facility)
 }
 
 struct Refusal {
@@ -176,14 +184,13 @@ impl Facility {
     }
 
     fn forecast(&self) -> Forecast {
-        let standing = |s: &Segment| Standing { n: s.n, q: s.q, letter: s.letter() };
         Forecast {
             arrived: self.arrived,
             left: self.left,
             stored: self.segments.iter().map(|s| s.n + s.q).sum::<u64>() + self.origin,
             part_steps: self.part_steps,
             origin: self.origin,
-            segments: self.segments.iter().map(standing).collect(),
+            segments: self.segments.iter().map(Segment::standing).collect(),
         }
     }
 }
@@ -248,6 +255,10 @@ impl Segment {
         } else {
             wish.min(spare.max(supply / (2 * self.lanes)))
         }
+    }
+
+    fn standing(&self) -> Standing {
+        Standing { n: self.n, q: self.q, letter: self.letter() }
     }
 
     fn letter(&self) -> u8 {

@@ -91,29 +91,29 @@ fn shortcuts_of(here: InForce) -> Shortcuts
 }
 
 // The number of a row at a place, and so many further on.
-fn number_in(row: &[u32; 835], at: usize, j: usize) -> u32
-    requires { ⌜ at + j < 835 ⌝ }
+fn number_in(row: &[u32; 771], at: usize, j: usize) -> u32
+    requires { ⌜ at + j < 771 ⌝ }
     ensures { λ r. ⌜ r ≡ getD (now (row .entry)) (at + j) 0 ⌝ }
 {
     row[at + j]
 }
 
-fn put_number(row: &mut [u32; 835], at: usize, j: usize, value: u32)
-    requires { ⌜ at + j < 835 ⌝ }
+fn put_number(row: &mut [u32; 771], at: usize, j: usize, value: u32)
+    requires { ⌜ at + j < 771 ⌝ }
     ensures { λ _. ⌜ now (row .exit) ≡ set (now (row .entry)) (at + j) value ⌝ }
 {
     row[at + j] = value;
 }
 
 // Puts what is in force at segment i into a row, and its shortcuts.
-fn put_in_force(row: &mut [u32; 835], i: usize, here: InForce)
+fn put_in_force(row: &mut [u32; 771], i: usize, here: InForce)
     requires { ⌜ (i < 64) × GoodPlace here ⌝ }
     ensures { λ _. ⌜ now (row .exit) ≡ withInForce (now (row .entry)) i here ⌝ }
 {
-    let at = 3 + 13 * i;
+    let at = 3 + 12 * i;
     let short = shortcuts_of(here);
     put_number(row, at, 0, here.length);
-    put_number(row, at, 1, here.speed);
+    put_number(row, at, 1, short.reach);
     put_number(row, at, 2, here.lanes);
     put_number(row, at, 3, here.capacity);
     put_number(row, at, 4, here.lowered);
@@ -123,14 +123,13 @@ fn put_in_force(row: &mut [u32; 835], i: usize, here: InForce)
     put_number(row, at, 8, here.share);
     put_number(row, at, 9, here.offramp);
     put_number(row, at, 10, here.demand);
-    put_number(row, at, 11, short.reach);
-    put_number(row, at, 12, short.easy);
+    put_number(row, at, 11, short.easy);
 }
 
-// A row has 835 numbers: NS, the mainline demand and X, then thirteen for each of up to 64 segments.
+// A row has 771 numbers: NS, the mainline demand and X, then twelve for each of up to 64 segments.
 // Fills one with the conditions of a road under a period sheet.
-fn fill(road: &[u32; 452], period: &[u32; 452], row: &mut [u32; 835])
-    requires { ⌜ GoodRoad (now road) × GoodPeriod (now road) (now period) × (length (now row) ≡ 835) ⌝ }
+fn fill(road: &[u32; 452], period: &[u32; 452], row: &mut [u32; 771])
+    requires { ⌜ GoodRoad (now road) × GoodPeriod (now road) (now period) × (length (now row) ≡ 771) ⌝ }
     ensures { λ _. ⌜ (conditionsIn (now (row .exit)) ≡ conditionsOf (now (road .entry)) (Under (now (period .entry)))) × HasShortcuts (now (row .exit)) ⌝ }
 {
     let g = sheets::globals_of_road(road);
@@ -148,43 +147,43 @@ fn fill(road: &[u32; 452], period: &[u32; 452], row: &mut [u32; 835])
 }
 
 // The conditions of a road under a period sheet, worked out into a row.
-pub fn work_out(road: &[u32; 452], period: &[u32; 452]) -> [u32; 835]
+pub fn work_out(road: &[u32; 452], period: &[u32; 452]) -> [u32; 771]
     requires { ⌜ GoodRoad (now road) × GoodPeriod (now road) (now period) ⌝ }
     ensures { λ r. ⌜ (conditionsIn r ≡ conditionsOf (now (road .entry)) (Under (now (period .entry)))) × HasShortcuts r ⌝ }
 {
-    let mut row = [0u32; 835];
+    let mut row = [0u32; 771];
     fill(road, period, &mut row);
     row
 }
 
 // NS, the mainline demand and X that a row tells.
-pub fn segments_in(row: &[u32; 835]) -> usize
+pub fn segments_in(row: &[u32; 771]) -> usize
     ensures { λ r. ⌜ r ≡ conditionsIn (now (row .entry)) .segments ⌝ }
 {
     number_in(row, 0, 0) as usize
 }
 
-pub fn demand_in(row: &[u32; 835]) -> u32
+pub fn demand_in(row: &[u32; 771]) -> u32
     ensures { λ r. ⌜ r ≡ conditionsIn (now (row .entry)) .demand ⌝ }
 {
     number_in(row, 0, 1)
 }
 
-pub fn exit_in(row: &[u32; 835]) -> u32
+pub fn exit_in(row: &[u32; 771]) -> u32
     ensures { λ r. ⌜ r ≡ conditionsIn (now (row .entry)) .exit ⌝ }
 {
     number_in(row, 0, 2)
 }
 
 // What is in force at segment i.
-pub fn in_force_at(row: &[u32; 835], i: usize) -> InForce
+pub fn in_force_at(row: &[u32; 771], i: usize) -> InForce
     requires { ⌜ (i < 64) × (i < conditionsIn (now row) .segments) ⌝ }
     ensures { λ r. ⌜ r ≡ inForceAt (conditionsIn (now (row .entry))) i ⌝ }
 {
-    let at = 3 + 13 * i;
+    let at = 3 + 12 * i;
     InForce {
         length: number_in(row, at, 0),
-        speed: number_in(row, at, 1),
+        speed: number_in(row, at, 1) / 22,
         lanes: number_in(row, at, 2),
         capacity: number_in(row, at, 3),
         lowered: number_in(row, at, 4),
@@ -198,13 +197,13 @@ pub fn in_force_at(row: &[u32; 835], i: usize) -> InForce
 }
 
 // Its shortcuts.
-pub fn shortcuts_at(row: &[u32; 835], i: usize) -> Shortcuts
+pub fn shortcuts_at(row: &[u32; 771], i: usize) -> Shortcuts
     requires { ⌜ (i < 64) × (i < conditionsIn (now row) .segments) × HasShortcuts (now row) ⌝ }
     ensures { λ r. ⌜ r ≡ shortcutsOf (inForceAt (conditionsIn (now (row .entry))) i) ⌝ }
 {
-    let at = 3 + 13 * i;
+    let at = 3 + 12 * i;
     Shortcuts {
-        reach: number_in(row, at, 11),
-        easy: number_in(row, at, 12),
+        reach: number_in(row, at, 1),
+        easy: number_in(row, at, 11),
     }
 }

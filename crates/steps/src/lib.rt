@@ -130,10 +130,10 @@ fn supply_of(entrance: u32, capacity: u32, jam: u32, critical: u32, n: u32) -> u
     ensures { λ r. ⌜ r ≡ supply entrance capacity jam critical n ⌝ }
 {
     let room = less(jam, n);
-    let most = least(entrance, room);
     if n <= critical {
-        return most;
+        return least(entrance, room);
     }
+    let most = least(entrance, room);
     let quotient = wide(capacity) * wide(room) / wide(jam - critical);
     least(most, quotient as u32)
 }
@@ -207,19 +207,19 @@ fn supply_in(here: InForce, easy: u32, cell: Cell, queued: bool) -> u32
 }
 
 // f and r at node i, the entrance of segment i with its cell, by the mainline wish and whether a queue stands before the node.
-fn flow_at(row: &[u32; 835], i: usize, cell: Cell, wish: u32, queued: bool) -> Flow
+fn flow_at(row: &[u32; 771], i: usize, cell: Cell, wish: u32, queued: bool) -> Flow
     requires { ⌜ GoodConditions (conditionsIn (now row)) × HasShortcuts (now row) × (i < conditionsIn (now row) .segments) × Held 5760 cell × (wish ≤ 115220000) ⌝ }
     ensures { λ r. ⌜ r ≡ inflowOf (inForceAt (conditionsIn (now (row .entry))) i) cell wish queued ⌝ }
 {
     let here = in_force_at(row, i);
     let short = shortcuts_at(row, i);
-    let p = supply_in(here, short.easy, cell, queued);
     let w = ramp_wish(cell.q, here.demand, here.limit);
+    let p = supply_in(here, short.easy, cell, queued);
     merged(p, here.lanes, wish, w)
 }
 
 // What segment i with its cell sends on.
-fn sent_at(row: &[u32; 835], i: usize, cell: Cell) -> Sent
+fn sent_at(row: &[u32; 771], i: usize, cell: Cell) -> Sent
     requires { ⌜ GoodConditions (conditionsIn (now row)) × HasShortcuts (now row) × (i < conditionsIn (now row) .segments) × Held 5760 cell ⌝ }
     ensures { λ r. ⌜ r ≡ sentOf (inForceAt (conditionsIn (now (row .entry))) i) cell ⌝ }
 {
@@ -253,7 +253,7 @@ fn moved(here: InForce, cell: Cell, flow: Flow, sent: Sent, ahead: u32) -> Cell
 }
 
 // The cell of segment i after the step.
-fn moved_at(row: &[u32; 835], i: usize, cell: Cell, flow: Flow, sent: Sent, ahead: u32) -> Cell
+fn moved_at(row: &[u32; 771], i: usize, cell: Cell, flow: Flow, sent: Sent, ahead: u32) -> Cell
     requires { ⌜ (i < 64) × (i < conditionsIn (now row) .segments) × Movable (inForceAt (conditionsIn (now row)) i) cell flow sent ahead ⌝ }
     ensures { λ r. ⌜ r ≡ movedOf (inForceAt (conditionsIn (now (row .entry))) i) cell flow (leavingOf (inForceAt (conditionsIn (now (row .entry))) i) cell ahead) ⌝ }
 {
@@ -325,7 +325,7 @@ pub fn state_of(row: &[u32; 384], ends: Ends) -> State
 
 // One step under the conditions in a row, in place: one pass over the segments, which carries the flow into the segment at hand and
 // puts each cell after it and the next have been read. The last segment, before the exit, comes after the loop.
-pub fn step(row: &[u32; 835], cells: &mut [u32; 384], ends: Ends) -> Stepped
+pub fn step(row: &[u32; 771], cells: &mut [u32; 384], ends: Ends) -> Stepped
     requires { ⌜ GoodConditions (conditionsIn (now row)) × HasShortcuts (now row) × (length (now cells) ≡ 384) × Bounded (conditionsIn (now row) .segments) 5760 (stateIn (now cells) ends) ⌝ }
     ensures { λ r. ⌜ (stateIn (now (cells .exit)) (r .ends) ≡ stepped (conditionsIn (now (row .entry))) (stateIn (now (cells .entry)) ends)) × (r .left ≡ leftOf (conditionsIn (now (row .entry)) .segments) (stepped (conditionsIn (now (row .entry))) (stateIn (now (cells .entry)) ends))) × (length (now (cells .exit)) ≡ 384) ⌝ }
 {
@@ -357,7 +357,7 @@ pub fn step(row: &[u32; 835], cells: &mut [u32; 384], ends: Ends) -> Stepped
 }
 
 // Arrived in a step: the mainline demand and all ramp demands.
-pub fn arrived(row: &[u32; 835]) -> u32
+pub fn arrived(row: &[u32; 771]) -> u32
     requires { ⌜ GoodConditions (conditionsIn (now row)) ⌝ }
     ensures { λ r. ⌜ r ≡ arrivedOf (conditionsIn (now (row .entry))) ⌝ }
 {

@@ -63,7 +63,7 @@ fn say_sums(t: u64, origin: u32, arrived: u64, left: u64, partsteps: u64) {
 }
 
 // Makes so many steps under the conditions in a row, and prints each.
-fn run(row: &[u32; 835], road: &[u32; 452], count: u64)
+fn run(row: &[u32; 771], road: &[u32; 452], count: u64)
     requires { ⌜ GoodConditions (conditionsIn (now row)) × HasShortcuts (now row) × (segments (now road) ≤ 64) × (count < 256) ⌝ }
 {
     let each = arithmetic::wide(steps::arrived(row));
