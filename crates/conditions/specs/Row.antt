@@ -1,5 +1,5 @@
 -- Conditions as a row of numbers: NS, mainline demand, X, then twelve numbers a segment; 771 = 3 + 12 × 64 in all.
-use Prim.Native.Nat.{ℕ, suc, _+_, _*_, _/_, _<_}
+use Prim.Native.Nat.{ℕ, _+_, _*_, _/_, _<_}
 use mathlib.Core.Path.{_≡_}
 use mathlib.Core.List.{List, [], _∷_}
 use native.Mathlib.Omega.{arith}

@@ -5,7 +5,7 @@ use sheets::RoadGlobals;
 use sheets::Segment;
 ghost use mathlib.Core.Path.{_≡_};
 ghost use Prim.Native.Nat.{_+_, _≤_, _<_};
-ghost use lib.ListN.{length, getD, set};
+ghost use lib.ListN.{length};
 ghost use Rattle.sheets.specs.Good.{GoodSegment, GoodRoad, GoodPeriod};
 ghost use Rattle.conditions.specs.Conditions.{partsAt, loweredBy, inForce, easyBelow, shortcutsOf, Under, conditionsOf, inForceAt};
 ghost use Rattle.conditions.specs.Good.{GoodGlobals, GoodPlace};
@@ -90,21 +90,6 @@ fn shortcuts_of(here: InForce) -> Shortcuts
     }
 }
 
-// The number of a row at a place, and so many further on.
-fn number_in(row: &[u32; 771], at: usize, j: usize) -> u32
-    requires { ⌜ at + j < 771 ⌝ }
-    ensures { λ r. ⌜ r ≡ getD (now (row .entry)) (at + j) 0 ⌝ }
-{
-    row[at + j]
-}
-
-fn put_number(row: &mut [u32; 771], at: usize, j: usize, value: u32)
-    requires { ⌜ at + j < 771 ⌝ }
-    ensures { λ _. ⌜ now (row .exit) ≡ set (now (row .entry)) (at + j) value ⌝ }
-{
-    row[at + j] = value;
-}
-
 // Puts what is in force at segment i into a row, and its shortcuts.
 fn put_in_force(row: &mut [u32; 771], i: usize, here: InForce)
     requires { ⌜ (i < 64) × GoodPlace here ⌝ }
@@ -112,18 +97,18 @@ fn put_in_force(row: &mut [u32; 771], i: usize, here: InForce)
 {
     let at = 3 + 12 * i;
     let short = shortcuts_of(here);
-    put_number(row, at, 0, here.length);
-    put_number(row, at, 1, short.reach);
-    put_number(row, at, 2, here.lanes);
-    put_number(row, at, 3, here.capacity);
-    put_number(row, at, 4, here.lowered);
-    put_number(row, at, 5, here.jam);
-    put_number(row, at, 6, here.critical);
-    put_number(row, at, 7, here.limit);
-    put_number(row, at, 8, here.share);
-    put_number(row, at, 9, here.offramp);
-    put_number(row, at, 10, here.demand);
-    put_number(row, at, 11, short.easy);
+    row[at] = here.length;
+    row[at + 1] = short.reach;
+    row[at + 2] = here.lanes;
+    row[at + 3] = here.capacity;
+    row[at + 4] = here.lowered;
+    row[at + 5] = here.jam;
+    row[at + 6] = here.critical;
+    row[at + 7] = here.limit;
+    row[at + 8] = here.share;
+    row[at + 9] = here.offramp;
+    row[at + 10] = here.demand;
+    row[at + 11] = short.easy;
 }
 
 // A row has 771 numbers: NS, the mainline demand and X, then twelve for each of up to 64 segments.
@@ -135,9 +120,9 @@ fn fill(road: &[u32; 452], period: &[u32; 452], row: &mut [u32; 771])
     let g = sheets::globals_of_road(road);
     let sheet = sheets::globals_of_period(period);
     let ns = g.segments as usize;
-    put_number(row, 0, 0, g.segments);
-    put_number(row, 0, 1, sheet.demand);
-    put_number(row, 0, 2, sheet.exit);
+    row[0] = g.segments;
+    row[1] = sheet.demand;
+    row[2] = sheet.exit;
     let mut i: usize = 0;
     while i < ns {
         let here = in_force(g, sheets::segment_at(road, i), sheets::ramp_at(period, i));
@@ -157,22 +142,22 @@ pub fn work_out(road: &[u32; 452], period: &[u32; 452]) -> [u32; 771]
 }
 
 // NS, the mainline demand and X that a row tells.
-pub fn segments_in(row: &[u32; 771]) -> usize
+pub fn segments_in(row: &[u32; 771]) -> u32
     ensures { λ r. ⌜ r ≡ conditionsIn (now (row .entry)) .segments ⌝ }
 {
-    number_in(row, 0, 0) as usize
+    row[0]
 }
 
 pub fn demand_in(row: &[u32; 771]) -> u32
     ensures { λ r. ⌜ r ≡ conditionsIn (now (row .entry)) .demand ⌝ }
 {
-    number_in(row, 0, 1)
+    row[1]
 }
 
 pub fn exit_in(row: &[u32; 771]) -> u32
     ensures { λ r. ⌜ r ≡ conditionsIn (now (row .entry)) .exit ⌝ }
 {
-    number_in(row, 0, 2)
+    row[2]
 }
 
 // What is in force at segment i.
@@ -182,17 +167,17 @@ pub fn in_force_at(row: &[u32; 771], i: usize) -> InForce
 {
     let at = 3 + 12 * i;
     InForce {
-        length: number_in(row, at, 0),
-        speed: number_in(row, at, 1) / 22,
-        lanes: number_in(row, at, 2),
-        capacity: number_in(row, at, 3),
-        lowered: number_in(row, at, 4),
-        jam: number_in(row, at, 5),
-        critical: number_in(row, at, 6),
-        limit: number_in(row, at, 7),
-        share: number_in(row, at, 8),
-        offramp: number_in(row, at, 9),
-        demand: number_in(row, at, 10),
+        length: row[at],
+        speed: row[at + 1] / 22,
+        lanes: row[at + 2],
+        capacity: row[at + 3],
+        lowered: row[at + 4],
+        jam: row[at + 5],
+        critical: row[at + 6],
+        limit: row[at + 7],
+        share: row[at + 8],
+        offramp: row[at + 9],
+        demand: row[at + 10],
     }
 }
 
@@ -203,7 +188,7 @@ pub fn shortcuts_at(row: &[u32; 771], i: usize) -> Shortcuts
 {
     let at = 3 + 12 * i;
     Shortcuts {
-        reach: number_in(row, at, 1),
-        easy: number_in(row, at, 11),
+        reach: row[at + 1],
+        easy: row[at + 11],
     }
 }

@@ -329,7 +329,7 @@ pub fn step(row: &[u32; 771], cells: &mut [u32; 384], ends: Ends) -> Stepped
     requires { ⌜ GoodConditions (conditionsIn (now row)) × HasShortcuts (now row) × (length (now cells) ≡ 384) × Bounded (conditionsIn (now row) .segments) 5760 (stateIn (now cells) ends) ⌝ }
     ensures { λ r. ⌜ (stateIn (now (cells .exit)) (r .ends) ≡ stepped (conditionsIn (now (row .entry))) (stateIn (now (cells .entry)) ends)) × (r .left ≡ leftOf (conditionsIn (now (row .entry)) .segments) (stepped (conditionsIn (now (row .entry))) (stateIn (now (cells .entry)) ends))) × (length (now (cells .exit)) ≡ 384) ⌝ }
 {
-    let last = segments_in(row) - 1;
+    let last = segments_in(row) as usize - 1;
     let queue = ends.origin;
     let wish = queue + demand_in(row);
     let mut flow = flow_at(row, 0, cell_at(cells, 0), wish, 0 < queue);
@@ -361,7 +361,7 @@ pub fn arrived(row: &[u32; 771]) -> u32
     requires { ⌜ GoodConditions (conditionsIn (now row)) ⌝ }
     ensures { λ r. ⌜ r ≡ arrivedOf (conditionsIn (now (row .entry))) ⌝ }
 {
-    let ns = segments_in(row);
+    let ns = segments_in(row) as usize;
     let mut sum: u32 = 0;
     let mut i: usize = 0;
     while i < ns {

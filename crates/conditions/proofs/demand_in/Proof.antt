@@ -1,15 +1,16 @@
 -- The second number.
-use borrow.Author.Needs.{needs}
+use mathlib.Core.Path.{refl}
+use native.Mathlib.Omega.{arith}
 use Rattle.conditions.specs.Row.{conditionsIn}
 use Rattle.conditions.proofs.demand_in.Statement.{statement}
 use Rattle.conditions.proofs.demand_in.Tie as tie
 
-number-in-requires : tie.Need-number-in-requires
-number-in-requires c κs = search needs
+element-copy-out-result : tie.Need-element-copy-out-result
+element-copy-out-result c = omega arith
 
 returns : tie.Need-returns
 unfolding conditionsIn
-returns c = c .number-in .ensures
+returns c = refl
 
 pub demand-in-spec : {M : Type 1} → statement M
-demand-in-spec = tie.close (tie.spec number-in-requires returns)
+demand-in-spec = tie.close (tie.spec element-copy-out-result returns)

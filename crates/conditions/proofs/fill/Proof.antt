@@ -24,37 +24,35 @@ globals-of-period-requires c κs = tt
 cast-ns : tie.Need-cast-ns Inv-loop μ-loop
 cast-ns c = omega (arith, c .struct-known)
 
-put-number-requires : tie.Need-put-number-requires Inv-loop μ-loop
-put-number-requires c κs = omega arith
+element-write-row : tie.Need-element-write-row Inv-loop μ-loop
+element-write-row c = omega arith
 
-put-number-requires-2 : tie.Need-put-number-requires-2 Inv-loop μ-loop
-put-number-requires-2 c κs = omega arith
+element-write-row-2 : tie.Need-element-write-row-2 Inv-loop μ-loop
+element-write-row-2 c = omega arith
 
-put-number-requires-3 : tie.Need-put-number-requires-3 Inv-loop μ-loop
-put-number-requires-3 c κs = omega arith
+element-write-row-3 : tie.Need-element-write-row-3 Inv-loop μ-loop
+element-write-row-3 c = omega arith
 
 loop-holds : tie.Need-loop-holds Inv-loop μ-loop
-loop-holds c =
-    rw (c .put-number3 .ensures, c .before .before .put-number2 .ensures, c .before .before .before .before .put-number .ensures)
-    (filling-start _ _ _ _ _ _ _ (c .before .before .before .before .before .before .before .before .before .args .row .now) (c .before .before .before .before .before .before .before .before .globals-of-road .ensures) refl (c .before .before .before .before .before .before .before .before .before .pre .2) (ap (λ (x : RoadGlobals). x .segments) (c .before .before .before .before .before .before .before .before .globals-of-road .ensures)) (ap (λ (x : PeriodGlobals). x .demand) (c .before .before .before .before .before .before .before .globals-of-period .ensures)) (ap (λ (x : PeriodGlobals). x .exit) (c .before .before .before .before .before .before .before .globals-of-period .ensures)))
+loop-holds c = filling-start _ _ _ _ _ _ _ (c .before .before .before .args .row .now) (c .before .before .globals-of-road .ensures) refl (c .before .before .before .pre .2) (ap (λ (x : RoadGlobals). x .segments) (c .before .before .globals-of-road .ensures)) (ap (λ (x : PeriodGlobals). x .demand) (c .before .globals-of-period .ensures)) (ap (λ (x : PeriodGlobals). x .exit) (c .before .globals-of-period .ensures))
 
 segment-at-requires : tie.Need-segment-at-requires Inv-loop μ-loop
-segment-at-requires c κs = omega (arith, c .before .loop .inv .all, c .before .before .before .before .before .before .before .before .before .before .before .pre .0 .segments .1)
+segment-at-requires c κs = omega (arith, c .before .loop .inv .all, c .before .before .before .before .before .pre .0 .segments .1)
 
 ramp-at-requires : tie.Need-ramp-at-requires Inv-loop μ-loop
-ramp-at-requires c κs = omega (arith, c .before .before .loop .inv .all, c .before .before .before .before .before .before .before .before .before .before .before .before .pre .0 .segments .1)
+ramp-at-requires c κs = omega (arith, c .before .before .loop .inv .all, c .before .before .before .before .before .before .pre .0 .segments .1)
 
 in-force-requires : tie.Need-in-force-requires Inv-loop μ-loop
 in-force-requires c κs =
-    let p = c .before .before .before .before .before .before .before .before .before .before .before .before .before .pre .0 in
+    let p = c .before .before .before .before .before .before .before .pre .0 in
     let at = c .before .before .before .loop .inv in
     (rw (at .globals-are) (good-globals _ p), rw (c .before .segment-at .ensures) (p .segment _ (omega (arith, at .all))))
 
 put-in-force-requires : tie.Need-put-in-force-requires Inv-loop μ-loop
-put-in-force-requires c κs = filling-fits _ _ _ _ _ _ (c .before .before .before .before .before .loop .inv) (c .before .before .before .before .before .before .before .before .before .before .before .before .before .before .before .pre .0) (c .before .before .before .before .before .before .before .before .before .before .before .before .before .before .before .pre .1) (c .before .before .before .before .loop-test .taken) _ _ _ (c .before .before .before .segment-at .ensures) (c .before .before .ramp-at .ensures) (c .before .in-force .ensures)
+put-in-force-requires c κs = filling-fits _ _ _ _ _ _ (c .before .before .before .before .before .loop .inv) (c .before .before .before .before .before .before .before .before .before .pre .0) (c .before .before .before .before .before .before .before .before .before .pre .1) (c .before .before .before .before .loop-test .taken) _ _ _ (c .before .before .before .segment-at .ensures) (c .before .before .ramp-at .ensures) (c .before .in-force .ensures)
 
 add-i : tie.Need-add-i Inv-loop μ-loop
-add-i c = omega (arith, c .before .before .before .before .before .before .loop .inv .all, c .before .before .before .before .before .before .before .before .before .before .before .before .before .before .before .before .pre .0 .segments .1)
+add-i c = omega (arith, c .before .before .before .before .before .before .loop .inv .all, c .before .before .before .before .before .before .before .before .before .before .pre .0 .segments .1)
 
 loop-less : tie.Need-loop-less Inv-loop μ-loop
 loop-less c = omega (arith, c .before .before .before .before .before .before .loop .inv .within)
@@ -62,10 +60,10 @@ loop-less c = omega (arith, c .before .before .before .before .before .before .l
 loop-again : tie.Need-loop-again Inv-loop μ-loop
 loop-again c =
     rw (c .put-in-force .ensures)
-    (filling-more _ _ _ _ _ _ (c .before .before .before .before .before .before .loop .inv) (c .before .before .before .before .before .before .before .before .before .before .before .before .before .before .before .before .pre .0) (c .before .before .before .before .before .before .before .before .before .before .before .before .before .before .before .before .pre .1) (c .before .before .before .before .before .loop-test .taken) _ _ _ (c .before .before .before .before .segment-at .ensures) (c .before .before .before .ramp-at .ensures) (c .before .before .in-force .ensures))
+    (filling-more _ _ _ _ _ _ (c .before .before .before .before .before .before .loop .inv) (c .before .before .before .before .before .before .before .before .before .before .pre .0) (c .before .before .before .before .before .before .before .before .before .before .pre .1) (c .before .before .before .before .before .loop-test .taken) _ _ _ (c .before .before .before .before .segment-at .ensures) (c .before .before .before .ramp-at .ensures) (c .before .before .in-force .ensures))
 
 returns : tie.Need-returns Inv-loop μ-loop
 returns c = (filling-done _ _ _ _ _ _ (c .before .loop .inv) (c .loop-test .left), shortcuts-done _ _ _ _ _ _ (c .before .loop .inv) (c .loop-test .left))
 
 pub fill-spec : {M : Type 1} → statement M
-fill-spec = tie.close (tie.spec Inv-loop μ-loop globals-of-road-requires globals-of-period-requires cast-ns put-number-requires put-number-requires-2 put-number-requires-3 loop-holds segment-at-requires ramp-at-requires in-force-requires put-in-force-requires add-i loop-less loop-again returns)
+fill-spec = tie.close (tie.spec Inv-loop μ-loop globals-of-road-requires globals-of-period-requires cast-ns element-write-row element-write-row-2 element-write-row-3 loop-holds segment-at-requires ramp-at-requires in-force-requires put-in-force-requires add-i loop-less loop-again returns)

@@ -1,8 +1,6 @@
--- The two numbers behind those in force.
+-- The reach, and the number behind those in force.
 use native.Mathlib.Omega.{arith}
-use Rattle.conditions.specs.Conditions.{shortcutsOf}
 use Rattle.conditions.specs.Row.{shortcutsIn, in-force-in}
-use mathlib.Core.Path.{_≡_, _∙_}
 use Rattle.conditions.proofs.shortcuts_at.Statement.{statement}
 use Rattle.conditions.proofs.shortcuts_at.Tie as tie
 
@@ -12,15 +10,27 @@ mul-at c = omega (arith, c .pre .0)
 add-at : tie.Need-add-at
 add-at c = omega (arith, c .pre .0)
 
-number-in-requires : tie.Need-number-in-requires
-number-in-requires c κs = omega (arith, c .pre .0)
+add-t4 : tie.Need-add-t4
+add-t4 c = omega (arith, c .pre .0)
 
-number-in-requires-2 : tie.Need-number-in-requires-2
-number-in-requires-2 c κs = omega (arith, c .before .pre .0)
+mul-t5 : tie.Need-mul-t5
+mul-t5 c = omega (arith, c .pre .0)
+
+element-copy-out-t8 : tie.Need-element-copy-out-t8
+element-copy-out-t8 c = omega (arith, c .pre .0)
+
+add-t9 : tie.Need-add-t9
+add-t9 c = omega (arith, c .before .pre .0)
+
+mul-t10 : tie.Need-mul-t10
+mul-t10 c = omega (arith, c .before .pre .0)
+
+element-copy-out-t13 : tie.Need-element-copy-out-t13
+element-copy-out-t13 c = omega (arith, c .before .pre .0)
 
 returns : tie.Need-returns
 unfolding shortcutsIn
-returns c = let p = c .before .before .pre in rw (in-force-in _ _ (p .1), ← p .2 _ (p .1)) (cc)
+returns c = let p = c .before .before .pre in rw (in-force-in _ _ (p .1), ← p .2 _ (p .1))
 
 pub shortcuts-at-spec : {M : Type 1} → statement M
-shortcuts-at-spec = tie.close (tie.spec mul-at add-at number-in-requires number-in-requires-2 returns)
+shortcuts-at-spec = tie.close (tie.spec mul-at add-at add-t4 mul-t5 element-copy-out-t8 add-t9 mul-t10 element-copy-out-t13 returns)

@@ -21,6 +21,9 @@ ramp-small c = rw (c .in-force-at .ensures) (c .before .before .before .before .
 segments-in-requires : tie.Need-segments-in-requires Inv-loop μ-loop
 segments-in-requires c κs = tt
 
+cast-ns : tie.Need-cast-ns Inv-loop μ-loop
+cast-ns c = omega (arith, c .segments-in .ensures, c .before .pre .segments .1)
+
 loop-holds : tie.Need-loop-holds Inv-loop μ-loop
 unfolding sumTo
 loop-holds c = (omega arith, c .segments-in .ensures, omega arith, refl)
@@ -51,4 +54,4 @@ unfolding arrivedOf
 returns c = let e : c .before .before .loop .i ≡ conditionsIn (c .before .before .before .before .args .row .now) .segments = omega (arith, c .before .before .loop .inv) in rw (c .before .before .loop .inv .3, c .demand-in .ensures, e)
 
 pub arrived-spec : {M : Type 1} → statement M
-arrived-spec = tie.close (tie.spec Inv-loop μ-loop segments-in-requires loop-holds in-force-at-requires add-sum add-i loop-less loop-again demand-in-requires add-result returns)
+arrived-spec = tie.close (tie.spec Inv-loop μ-loop segments-in-requires cast-ns loop-holds in-force-at-requires add-sum add-i loop-less loop-again demand-in-requires add-result returns)

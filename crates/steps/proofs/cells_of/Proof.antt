@@ -6,7 +6,7 @@ use native.Mathlib.Numerals.{add-one}
 use lib.ListN.{length, getD, length-map, length-replicate}
 use Rattle.conditions.specs.Values.{values-are, values-length}
 use Rattle.steps.specs.Step.{noCell, replaced}
-use Rattle.steps.specs.CellRow.{cellAt, cellsOf, cells-put, with-cell-length}
+use Rattle.steps.specs.CellRow.{cellsOf, cells-put, with-cell-length}
 use Rattle.steps.specs.Sums.{replaced-all}
 use Rattle.steps.proofs.cells_of.Statement.{statement}
 use Rattle.steps.proofs.cells_of.Tie as tie

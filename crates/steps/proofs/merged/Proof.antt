@@ -1,6 +1,5 @@
 -- Both wishes, or r and f by it.
 use native.Mathlib.Omega.{arith}
-use mathlib.Core.Path.{sym, _∙_}
 use Rattle.steps.specs.Closed.{both-fit}
 use Rattle.steps.proofs.merged.Statement.{statement}
 use Rattle.steps.proofs.merged.Tie as tie

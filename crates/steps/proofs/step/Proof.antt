@@ -87,6 +87,9 @@ left-off at = left-small _ _ _ _ _ _ _ _ (passing at) (entry at .pre .0) (entry 
 segments-in-requires : tie.Need-segments-in-requires Inv-loop μ-loop
 segments-in-requires c κs = tt
 
+cast-last : tie.Need-cast-last Inv-loop μ-loop
+cast-last c = omega (arith, c .segments-in .ensures, c .before .pre .0 .segments .1)
+
 sub-last : tie.Need-sub-last Inv-loop μ-loop
 sub-last c = omega (arith, c .segments-in .ensures, c .before .pre .0 .segments .0)
 
@@ -198,8 +201,8 @@ add-left-2 c =
 put-cell-requires-2 : tie.Need-put-cell-requires-2 Inv-loop μ-loop
 put-cell-requires-2 c κs = below (c .before .before .before .before .before .before .before .before .before .before .before) .1
 
-add-t18 : tie.Need-add-t18 Inv-loop μ-loop
-add-t18 c =
+add-t17 : tie.Need-add-t17 Inv-loop μ-loop
+add-t17 c =
     let at = c .before .before .before .before .before .before .before .before .before .before .before .before in
     let p = entry at .pre in
     omega (arith, left-off at, c .before .before .before .before .before .before .least .ensures, c .before .before .before .before .before .before .before .exit-in .ensures, p .0 .exit, moved-off _ _ _ _ _ (p .0 .place _ (below at .0)) (p .3 .cells _ (below at .0)) (moving-2 (c .before .before .before)))
@@ -212,4 +215,4 @@ returns c =
     (done _ _ _ _ _ _ _ _ (passing at) _ (sending-2 (c .before .before .before .before .before .before .before .before)) (below at .1) _ _ (p .0) (p .3) (omega (arith, p .0 .segments .1, values-length (cellAt (entry at .args .cells .now)) 64)) (c .before .before .before .before .before .before .before .before .before .before .before .loop-test .left) (rw (c .before .before .before .before .before .before .least .ensures, c .before .before .before .before .before .before .before .exit-in .ensures)) (moving-2 (c .before .before .before)))
 
 pub step-spec : {M : Type 1} → statement M
-step-spec = tie.close (tie.spec Inv-loop μ-loop segments-in-requires sub-last demand-in-requires add-wish cell-at-requires flow-at-requires sub-origin loop-holds cell-at-requires-2 sent-at-requires add-flow-at add-cell-at cell-at-requires-3 flow-at-requires-2 cell-at-requires-4 moved-at-requires add-left put-cell-requires add-i loop-less loop-again cell-at-requires-5 sent-at-requires-2 exit-in-requires least-requires cell-at-requires-6 moved-at-requires-2 add-left-2 put-cell-requires-2 add-t18 returns)
+step-spec = tie.close (tie.spec Inv-loop μ-loop segments-in-requires cast-last sub-last demand-in-requires add-wish cell-at-requires flow-at-requires sub-origin loop-holds cell-at-requires-2 sent-at-requires add-flow-at add-cell-at cell-at-requires-3 flow-at-requires-2 cell-at-requires-4 moved-at-requires add-left put-cell-requires add-i loop-less loop-again cell-at-requires-5 sent-at-requires-2 exit-in-requires least-requires cell-at-requires-6 moved-at-requires-2 add-left-2 put-cell-requires-2 add-t17 returns)

@@ -1,5 +1,5 @@
 -- E where there are few parts, else P by it.
-use mathlib.Core.Path.{sym, _∙_}
+use mathlib.Core.Path.{sym}
 use Rattle.conditions.specs.Conditions.{shortcutsOf}
 use Rattle.steps.specs.Formulas.{entrance-most}
 use Rattle.steps.specs.Closed.{supply-easy}

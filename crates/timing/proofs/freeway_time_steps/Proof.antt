@@ -1,6 +1,6 @@
 -- The periods in turn.
-use Prim.Native.Nat.{ℕ, _-_, _≤_}
-use mathlib.Core.Path.{_≡_, refl, ap, _∙_}
+use Prim.Native.Nat.{_-_, _≤_}
+use mathlib.Core.Path.{_≡_, refl}
 use native.Mathlib.Omega.{arith}
 use native.Mathlib.Numerals.{add-one}
 use Rattle.timing.specs.Repeated.{periodsOneByOne}
