@@ -11,7 +11,7 @@ use Rattle.sheets.specs.Read.{onto, andThen, fields, readRow, roadFrom, readRoa
 use Rattle.letters.specs.declared.Level.the-variants.{D}
 use Rattle.conditions.specs.Values.{valuesTo}
 use Rattle.conditions.specs.Conditions.{partsAt, loweredBy, inForce, demandUnder, exitUnder, rampUnder, conditionsOf}
-use Rattle.steps.specs.Rules.{largest, roundedUp, wishToLeave, off, through, mostLeaving, rampWish, entrance, supply, rampFlow, mainFlow, leaving}
+use Rattle.rules.specs.Rules.{largest, roundedUp, wishToLeave, off, through, mostLeaving, rampWish, entrance, supply, rampFlow, mainFlow, leaving}
 use Rattle.steps.specs.Place.{splitOf, wishOf, mostOf, onwardOf, queuedOf, rampWishOf, entranceOf, supplyOf, inflowOf, leavingOf, movedOf}
 use Rattle.steps.specs.Step.{mainWishAt, queuedAt, mainFlowAt, replaced, stepped, sumTo, arrivedOf, leftOf, storedOf}
 use Rattle.letters.specs.Level.{holdsAtMost, levelBy, levelOf}

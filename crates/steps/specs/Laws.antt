@@ -10,12 +10,12 @@ use Rattle.numbers.specs.Choice.{if_then_else_}
 use Rattle.steps.specs.declared.Cell.{Cell}
 use Rattle.conditions.specs.declared.InForce.{InForce}
 use Rattle.steps.specs.declared.State.{State}
-use Rattle.steps.specs.Rules.{off, through, entrance}
+use Rattle.rules.specs.Rules.{off, through, entrance}
 use Rattle.conditions.specs.Conditions.{Conditions, inForceAt}
 use Rattle.steps.specs.Place.{splitOf, wishOf, mostOf, onwardOf, rampWishOf, entranceOf, supplyOf, inflowOf, leavingOf, movedOf}
 use Rattle.steps.specs.Step.{noCell, cellIn, mainWishAt, flowAt, mainFlowAt, leavingAt, nextCell, stepped}
-use Rattle.steps.specs.Formulas.{entrance-most, main-flow-most, merge-exact, ramp-flow-most, ramp-flow-share-least, ramp-wish-most-queue, ramp-wish-most-limit, supply-most-entrance, supply-most-room, wish-most-capacity, wish-most-parts}
-use Rattle.steps.specs.Split.{GoodSplit, off-rises, split-whole, most-leaving-most, most-leaving-off, leaving-most, leaving-through}
+use Rattle.rules.specs.Formulas.{entrance-most, main-flow-most, merge-exact, ramp-flow-most, ramp-flow-share-least, ramp-wish-most-queue, ramp-wish-most-limit, supply-most-entrance, supply-most-room, wish-most-capacity, wish-most-parts}
+use Rattle.rules.specs.Split.{GoodSplit, off-rises, split-whole, most-leaving-most, most-leaving-off, leaving-most, leaving-through}
 use Rattle.conditions.specs.Good.{GoodPlace, GoodConditions}
 use Rattle.steps.specs.Held.{Held, Bounded}
 use Rattle.steps.specs.Sums.{length-replaced, replaced-at}

@@ -1,13 +1,8 @@
-pub mod Rules
 pub mod Place
 pub mod Step
 pub mod CellRow
 pub mod Held
 pub mod Claims
-pub mod Largest
-pub mod Split
-pub mod Closed
-pub mod Formulas
 pub mod Sums
 pub mod Laws
 pub mod Balance

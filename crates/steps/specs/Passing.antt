@@ -9,14 +9,14 @@ use lib.Dec.{ltb}
 use Rattle.conditions.specs.declared.InForce.{InForce}
 use Rattle.conditions.specs.declared.Shortcuts.{Shortcuts}
 use Rattle.steps.specs.declared.Cell.{Cell}
-use Rattle.steps.specs.declared.Flow.{Flow}
+use Rattle.rules.specs.declared.Flow.{Flow}
 use Rattle.steps.specs.declared.Sent.{Sent}
-use Rattle.steps.specs.declared.Split.{Split}
+use Rattle.rules.specs.declared.Split.{Split}
 use Rattle.steps.specs.declared.State.{State}
 use Rattle.conditions.specs.Conditions.{shortcutsOf, Conditions, inForceAt}
 use Rattle.conditions.specs.Values.{values-at}
-use Rattle.steps.specs.Rules.{off, through, leaving}
-use Rattle.steps.specs.Split.{GoodSplit, through-most}
+use Rattle.rules.specs.Rules.{off, through, leaving}
+use Rattle.rules.specs.Split.{GoodSplit, through-most}
 use Rattle.steps.specs.Place.{splitOf, mostOf, onwardOf, sentOf, inflowOf, leavingOf, movedOf}
 use Rattle.steps.specs.Step.{noCell, cellIn, mainWishAt, queuedAt, flowAt, mainFlowAt, nextCell, replaced, stepped, sumTo, leftOf}
 use Rattle.steps.specs.CellRow.{cellAt, cellsOf, stateIn, withCell, with-cell-length, cells-put}

@@ -3,11 +3,11 @@ use Prim.Native.Nat.{ℕ, _+_, _-_}
 use mathlib.Core.Bool.{Bool}
 use lib.Dec.{ltb}
 use Rattle.conditions.specs.declared.InForce.{InForce}
-use Rattle.steps.specs.declared.Split.{Split}
+use Rattle.rules.specs.declared.Split.{Split}
 use Rattle.steps.specs.declared.Cell.{Cell}
-use Rattle.steps.specs.declared.Flow.{Flow}
+use Rattle.rules.specs.declared.Flow.{Flow}
 use Rattle.steps.specs.declared.Sent.{Sent}
-use Rattle.steps.specs.Rules.{wishToLeave, off, through, mostLeaving, rampWish, entrance, supply, rampFlow, mainFlow, leaving}
+use Rattle.rules.specs.Rules.{wishToLeave, off, through, mostLeaving, rampWish, entrance, supply, rampFlow, mainFlow, leaving}
 
 module _ (here : InForce) (cell : Cell) where
   -- what the split into off(y) and through(y) goes by: what is in force and the cell, of which today the share s alone

@@ -7,7 +7,7 @@ use lib.ListN.{getD, replicate, set}
 use lib.Dec.{ltb}
 use Rattle.numbers.specs.Choice.{if_then_else_}
 use Rattle.steps.specs.declared.Cell.{Cell}
-use Rattle.steps.specs.declared.Flow.{Flow}
+use Rattle.rules.specs.declared.Flow.{Flow}
 use Rattle.steps.specs.declared.State.{State}
 use Rattle.conditions.specs.Conditions.{Conditions, inForceAt}
 use Rattle.steps.specs.Place.{onwardOf, queuedOf, rampWishOf, supplyOf, inflowOf, leavingOf, movedOf}

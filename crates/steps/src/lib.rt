@@ -1,6 +1,5 @@
 // The step rules: one step of the road under the conditions in force, part by part.
 use arithmetic::least;
-use arithmetic::less;
 use arithmetic::wide;
 use conditions::InForce;
 use conditions::demand_in;
@@ -8,18 +7,26 @@ use conditions::exit_in;
 use conditions::in_force_at;
 use conditions::segments_in;
 use conditions::shortcuts_at;
+use rules::Flow;
+use rules::Split;
+use rules::entrance_of;
+use rules::leaving_of;
+use rules::merged;
+use rules::most_leaving;
+use rules::ramp_wish;
+use rules::supply_of;
+use rules::through_of;
+use rules::wish_to_leave;
 ghost use mathlib.Core.Path.{_≡_};
-ghost use Prim.Native.Nat.{ℕ, _*_, _≤_, _<_};
+ghost use Prim.Native.Nat.{_*_, _≤_, _<_};
 ghost use lib.ListN.{length};
 ghost use Rattle.conditions.specs.Conditions.{inForceAt, shortcutsOf};
 ghost use Rattle.conditions.specs.Good.{GoodPlace, GoodConditions};
 ghost use Rattle.conditions.specs.Row.{conditionsIn, HasShortcuts};
-ghost use Rattle.steps.specs.Rules.{wishToLeave, off, through, mostLeaving, rampWish, entrance, supply, rampFlow, mainFlow, leaving};
 ghost use Rattle.steps.specs.Place.{splitOf, sentOf, supplyOf, inflowOf, leavingOf, movedOf};
 ghost use Rattle.steps.specs.Step.{freshState, stepped, arrivedOf, leftOf, storedOf};
 ghost use Rattle.steps.specs.CellRow.{cellAt, withCell, cellsOf, stateIn};
 ghost use Rattle.steps.specs.Held.{Held, Bounded};
-ghost use Rattle.steps.specs.Split.{GoodSplit};
 ghost use Rattle.steps.specs.Passing.{Movable};
 
 // A segment's state: n parts in it and q in its on-ramp's queue; and of the last step the mainline flow f and the ramp flow r that
@@ -46,17 +53,6 @@ pub struct Ends {
     pub exit: u32,
 }
 
-// What the split of leaving parts goes by.
-pub struct Split {
-    pub share: u32,
-}
-
-// What enters at a node: the mainline flow f and the ramp flow r.
-pub struct Flow {
-    pub main: u32,
-    pub ramp: u32,
-}
-
 // What a segment sends on: Y0, the mainline wish at the node ahead, and whether the segment is queued.
 pub struct Sent {
     pub most: u32,
@@ -68,123 +64,6 @@ pub struct Sent {
 pub struct Stepped {
     pub ends: Ends,
     pub left: u32,
-}
-
-// D, by the reach 22 × V. The quotient is worked out only where it is the least.
-fn wish_to_leave(n: u32, capacity: u32, reach: u32, length: u32) -> u32
-    requires { ⌜ (n ≤ 2880000) × (capacity ≤ 20000) × (reach ≤ 1870) × (1 ≤ length) × (length ≤ 26400) ⌝ }
-    ensures { λ r. ⌜ ((speed : ℕ) → reach ≡ 22 * speed → r ≡ wishToLeave n capacity speed length) ⌝ }
-{
-    let moving = wide(n) * wide(reach);
-    let most = least(n, capacity);
-    if wide(most * length) <= moving {
-        return most;
-    }
-    (moving as u32 + (length - 1)) / length
-}
-
-// off(y), and what is left of y: through(y).
-fn off_of(split: Split, y: u32) -> u32
-    requires { ⌜ GoodSplit split × (y ≤ 20000) ⌝ }
-    ensures { λ r. ⌜ r ≡ off split y ⌝ }
-{
-    y * split.share / 1000
-}
-
-fn through_of(split: Split, y: u32) -> u32
-    requires { ⌜ GoodSplit split × (y ≤ 20000) ⌝ }
-    ensures { λ r. ⌜ r ≡ through split y ⌝ }
-{
-    y - off_of(split, y)
-}
-
-// Y0: all who wish to leave, or as many as the off-ramp's capacity lets.
-fn most_leaving(split: Split, offramp: u32, wish: u32) -> u32
-    requires { ⌜ GoodSplit split × (offramp ≤ 10000) × (wish ≤ 20000) ⌝ }
-    ensures { λ r. ⌜ r ≡ mostLeaving split offramp wish ⌝ }
-{
-    if off_of(split, wish) <= offramp {
-        return wish;
-    }
-    ((offramp + 1) * 1000 - 1) / split.share
-}
-
-// W.
-fn ramp_wish(queue: u32, demand: u32, limit: u32) -> u32
-    requires { ⌜ (queue ≤ 57600000) × (demand ≤ 10000) ⌝ }
-    ensures { λ r. ⌜ r ≡ rampWish queue demand limit ⌝ }
-{
-    least(queue + demand, limit)
-}
-
-// E.
-fn entrance_of(capacity: u32, lowered: u32, queued: bool) -> u32
-    ensures { λ r. ⌜ r ≡ entrance capacity lowered queued ⌝ }
-{
-    if queued { lowered } else { capacity }
-}
-
-// P. Up to Q the quotient is at least C, and is not worked out.
-fn supply_of(entrance: u32, capacity: u32, jam: u32, critical: u32, n: u32) -> u32
-    requires { ⌜ (entrance ≤ capacity) × (capacity ≤ 20000) × (jam ≤ 2880000) × (critical < jam) ⌝ }
-    ensures { λ r. ⌜ r ≡ supply entrance capacity jam critical n ⌝ }
-{
-    let room = less(jam, n);
-    if n <= critical {
-        return least(entrance, room);
-    }
-    let most = least(entrance, room);
-    let quotient = wide(capacity) * wide(room) / wide(jam - critical);
-    least(most, quotient as u32)
-}
-
-// r. The ramp's share of the supply is worked out only where the rest is less than the ramp's wish.
-fn ramp_flow(p: u32, lanes: u32, m: u32, w: u32) -> u32
-    requires { ⌜ (1 ≤ lanes) × (lanes ≤ 8) ⌝ }
-    ensures { λ r. ⌜ r ≡ rampFlow p lanes m w ⌝ }
-{
-    let rest = less(p, m);
-    if w <= rest {
-        return w;
-    }
-    let share = p / (2 * lanes);
-    if share <= rest {
-        return rest;
-    }
-    least(w, share)
-}
-
-// f.
-fn main_flow(m: u32, p: u32, r: u32) -> u32
-    ensures { λ f. ⌜ f ≡ mainFlow m p r ⌝ }
-{
-    least(m, less(p, r))
-}
-
-// f and r. Where the supply takes both wishes, they are the wishes.
-fn merged(p: u32, lanes: u32, m: u32, w: u32) -> Flow
-    requires { ⌜ (1 ≤ lanes) × (lanes ≤ 8) × (m ≤ 115220000) × (w ≤ 10000) ⌝ }
-    ensures { λ r. ⌜ r ≡ record { main = mainFlow m p (rampFlow p lanes m w); ramp = rampFlow p lanes m w } ⌝ }
-{
-    if m + w <= p {
-        return Flow { main: m, ramp: w };
-    }
-    let ramp = ramp_flow(p, lanes, m, w);
-    Flow {
-        main: main_flow(m, p, ramp),
-        ramp,
-    }
-}
-
-// y, by what all who may leave send on: all, or as many as the node ahead takes of those who go on.
-fn leaving_of(split: Split, most: u32, wish: u32, ahead: u32) -> u32
-    requires { ⌜ GoodSplit split × (most ≤ 20000) × (wish ≡ through split most) ⌝ }
-    ensures { λ r. ⌜ r ≡ leaving split most ahead ⌝ }
-{
-    if wish <= ahead {
-        return most;
-    }
-    1000 * ahead / (1000 - split.share)
 }
 
 // What the split at a segment goes by.

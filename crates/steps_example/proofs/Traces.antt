@@ -6,7 +6,7 @@ use lib.ListN.{replicate}
 use Rattle.sheets.specs.Parts.{roadGlobals, segmentOf, periodGlobals, rampOf}
 use Rattle.steps.specs.declared.Cell.{Cell}
 use Rattle.steps.specs.declared.State.{State}
-use Rattle.steps.specs.Rules.{largest, roundedUp, wishToLeave, off, through, mostLeaving, rampWish, entrance, supply, rampFlow, mainFlow, leaving}
+use Rattle.rules.specs.Rules.{largest, roundedUp, wishToLeave, off, through, mostLeaving, rampWish, entrance, supply, rampFlow, mainFlow, leaving}
 use Rattle.steps.specs.Step.{noCell, mainWishAt, queuedAt, mainFlowAt, replaced, stepped}
 use Rattle.steps.specs.Place.{splitOf, wishOf, mostOf, onwardOf, queuedOf, rampWishOf, entranceOf, supplyOf, inflowOf, leavingOf, movedOf}
 use Rattle.conditions.specs.Conditions.{partsAt, loweredBy, segments, SheetInForce, None, Under, conditionsOf, demandUnder, exitUnder, rampUnder, inForce}

@@ -10,8 +10,8 @@ use Rattle.sheets.specs.Parts.{roadGlobals, segmentOf, periodGlobals, rampOf}
 use Rattle.sheets.specs.Read.{Rows, ReadRow, RefusedAt, onto, andThen, fields, readRow, roadFrom, readRoad, readPeriod, padded}
 use Rattle.conditions.specs.Values.{valuesTo}
 use Rattle.conditions.specs.Conditions.{partsAt, loweredBy, inForce, demandUnder, exitUnder, rampUnder, conditionsOf}
-use Rattle.steps.specs.declared.Split.{Split as SplitBy}
-use Rattle.steps.specs.Rules.{largest, roundedUp, wishToLeave, off, through, mostLeaving, rampWish, entrance, supply, rampFlow, mainFlow, leaving}
+use Rattle.rules.specs.declared.Split.{Split as SplitBy}
+use Rattle.rules.specs.Rules.{largest, roundedUp, wishToLeave, off, through, mostLeaving, rampWish, entrance, supply, rampFlow, mainFlow, leaving}
 use Rattle.steps.specs.Place.{splitOf, wishOf, mostOf, onwardOf, queuedOf, rampWishOf, entranceOf, supplyOf, inflowOf, leavingOf, movedOf}
 use Rattle.steps.specs.Step.{cellIn, mainWishAt, queuedAt, mainFlowAt, replaced, stepped, sumTo, arrivedOf, leftOf}
 use Rattle.facility.specs.Ledger.{Take, Run, stateAfter, arrivedIn, leftIn, partstepsIn, Book, opened, bookAfter}

@@ -1,6 +1,6 @@
 -- What is in force there, W and P, then f and r.
 use native.Mathlib.Omega.{arith}
-use Rattle.steps.specs.Formulas.{ramp-wish-most-limit}
+use Rattle.rules.specs.Formulas.{ramp-wish-most-limit}
 use Rattle.steps.specs.Place.{inflowOf, rampWishOf}
 use Rattle.steps.specs.Passing.{good-here, short-here}
 use Rattle.steps.proofs.flow_at.Statement.{statement}

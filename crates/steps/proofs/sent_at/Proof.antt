@@ -1,9 +1,9 @@
 -- What is in force there, D, Y0 by it, what goes on of that, and the test.
 use native.Mathlib.Omega.{arith}
 use mathlib.Core.Path.{_≡_}
-use Rattle.steps.specs.Rules.{wishToLeave}
-use Rattle.steps.specs.Formulas.{wish-most-capacity}
-use Rattle.steps.specs.Split.{most-leaving-most}
+use Rattle.rules.specs.Rules.{wishToLeave}
+use Rattle.rules.specs.Formulas.{wish-most-capacity}
+use Rattle.rules.specs.Split.{most-leaving-most}
 use Rattle.steps.specs.Place.{wishOf, mostOf, onwardOf, queuedOf, sentOf}
 use Rattle.steps.specs.Passing.{good-here, short-here, fits-split}
 use Rattle.steps.proofs.sent_at.Statement.{statement}

@@ -1,8 +1,8 @@
 -- E where there are few parts, else P by it.
 use mathlib.Core.Path.{sym}
 use Rattle.conditions.specs.Conditions.{shortcutsOf}
-use Rattle.steps.specs.Formulas.{entrance-most}
-use Rattle.steps.specs.Closed.{supply-easy}
+use Rattle.rules.specs.Formulas.{entrance-most}
+use Rattle.rules.specs.Closed.{supply-easy}
 use Rattle.steps.specs.Place.{supplyOf, entranceOf}
 use Rattle.steps.proofs.supply_in.Statement.{statement}
 use Rattle.steps.proofs.supply_in.Tie as tie

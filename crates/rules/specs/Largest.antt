@@ -6,7 +6,7 @@ use native.Mathlib.Omega.{arith}
 use lib.Dec.{leb}
 use borrow.Author.Tests.{leb-true, leb-false}
 use Rattle.numbers.specs.Choice.{if_then_else_}
-use Rattle.steps.specs.Rules.{largest}
+use Rattle.rules.specs.Rules.{largest}
 
 -- ---- of any test
 chosen-most : (b x : ℕ) (t : Bool) → x ≤ b → (if t then suc b else x) ≤ suc b

@@ -4,7 +4,7 @@ use Prim.Native.Nat.{ℕ, zero, suc, _+_, _-_, _*_, _/_, min, max}
 use mathlib.Core.Bool.{Bool}
 use lib.Dec.{leb}
 use Rattle.numbers.specs.Choice.{if_then_else_}
-use Rattle.steps.specs.declared.Split.{Split}
+use Rattle.rules.specs.declared.Split.{Split}
 
 -- the largest y up to b that passes the test, by search from the top
 unfoldable pub largest : (ℕ → Bool) → ℕ → ℕ

@@ -7,9 +7,9 @@ use native.Mathlib.Omega.{arith}
 use lib.Dec.{leb}
 use borrow.Author.Tests.{le-leb, lt-leb, leb-true, leb-false}
 use Rattle.arithmetic.specs.Tests.{leb-iff}
-use Rattle.steps.specs.declared.Split.{Split}
-use Rattle.steps.specs.Rules.{off, through, mostLeaving, leaving}
-use Rattle.steps.specs.Largest.{largest-most, largest-passes, largest-reaches, largest-whole, largest-min}
+use Rattle.rules.specs.declared.Split.{Split}
+use Rattle.rules.specs.Rules.{off, through, mostLeaving, leaving}
+use Rattle.rules.specs.Largest.{largest-most, largest-passes, largest-reaches, largest-whole, largest-min}
 
 pub record GoodSplit (s : Split) : Type 0 where
   pub share : s .share ≤ 1000

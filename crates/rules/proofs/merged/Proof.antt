@@ -1,8 +1,8 @@
 -- Both wishes, or r and f by it.
 use native.Mathlib.Omega.{arith}
-use Rattle.steps.specs.Closed.{both-fit}
-use Rattle.steps.proofs.merged.Statement.{statement}
-use Rattle.steps.proofs.merged.Tie as tie
+use Rattle.rules.specs.Closed.{both-fit}
+use Rattle.rules.proofs.merged.Statement.{statement}
+use Rattle.rules.proofs.merged.Tie as tie
 
 add-if1 : tie.Need-add-if1
 add-if1 c = omega (arith, c .pre .2, c .pre .3)

@@ -4,7 +4,7 @@ use mathlib.Core.Bool.{Bool, true, false}
 use mathlib.Core.Path.{_≡_, refl}
 use native.Mathlib.Nat.{div-le-self}
 use native.Mathlib.Omega.{arith}
-use Rattle.steps.specs.Rules.{wishToLeave, rampWish, entrance, supply, rampFlow, mainFlow}
+use Rattle.rules.specs.Rules.{wishToLeave, rampWish, entrance, supply, rampFlow, mainFlow}
 
 -- ---- D
 pub wish-most-parts : (n c v l : ℕ) → wishToLeave n c v l ≤ n
