@@ -1,16 +1,13 @@
 -- What is in force while a step is made: NS, the mainline demand, the exit capacity X, and at each segment the numbers that the step rules
 -- of document 01, "One step", go by there. Here alone a road and a period sheet become conditions.
-use Prim.Native.Nat.{ℕ, _+_, _-_, _*_, _/_, min}
+use Prim.Native.Nat.{ℕ, _-_, _*_, _/_, min}
 use mathlib.Core.List.{List}
 use lib.ListN.{getD}
-use lib.Dec.{ltb}
-use Rattle.numbers.specs.Choice.{if_then_else_}
 use Rattle.sheets.specs.declared.RoadGlobals.{RoadGlobals}
 use Rattle.sheets.specs.declared.Segment.{Segment}
 use Rattle.sheets.specs.declared.Ramp.{Ramp}
 use Rattle.sheets.specs.Parts.{roadGlobals, segmentOf, periodGlobals, rampOf}
 use Rattle.conditions.specs.declared.InForce.{InForce}
-use Rattle.conditions.specs.declared.Shortcuts.{Shortcuts}
 use Rattle.conditions.specs.Values.{valuesTo}
 
 -- J = KJ × N × L / 22, the jam, from the jam density; Q = KC × N × L / 22, from the density at capacity
@@ -37,14 +34,6 @@ inForce g seg ramp = record {
   offramp = seg .offramp;
   demand = ramp .demand;
 }
-
--- what spares a step some work. The parts below which P is E: none where the jam is below C, else those up to Q whose room is at least C
-unfoldable pub easyBelow : (jam critical capacity : ℕ) → ℕ
-easyBelow j q c = if ltb j c then 0 else min q (j - c) + 1
-
--- 22 × V, and the parts below which P is E
-unfoldable pub shortcutsOf : InForce → Shortcuts
-shortcutsOf here = record { reach = 22 * here .speed; easy = easyBelow (here .jam) (here .critical) (here .capacity) }
 
 -- the sheet in force: none before the first is taken
 pub data SheetInForce : Type 0 where

@@ -13,7 +13,8 @@ use Rattle.sheets.specs.declared.Ramp.{Ramp}
 use Rattle.sheets.specs.Parts.{roadGlobals, segmentOf, periodGlobals, rampOf}
 use Rattle.sheets.specs.Good.{GoodRoad, GoodPeriod}
 use Rattle.conditions.specs.declared.InForce.{InForce}
-use Rattle.conditions.specs.Conditions.{inForce, shortcutsOf, segments, Under, inForceOf, demandUnder, exitUnder, rampUnder, conditionsOf}
+use Rattle.conditions.specs.Conditions.{inForce, segments, Under, inForceOf, demandUnder, exitUnder, rampUnder, conditionsOf}
+use Rattle.conditions.specs.Shortcuts.{shortcutsOf}
 use Rattle.conditions.specs.Good.{GoodPlace, good-globals, good-place}
 use Rattle.conditions.specs.Values.{values-same}
 use Rattle.conditions.specs.Row.{startOf, inForceIn, shortcutsIn, conditionsIn, HasShortcuts, withInForce, with-in-force-at, with-shortcuts-at, with-in-force-before, with-in-force-earlier, with-shortcuts-earlier, with-in-force-length}

@@ -6,7 +6,8 @@ use native.Mathlib.Omega.{arith}
 use lib.ListN.{length, getD}
 use Rattle.conditions.specs.declared.InForce.{InForce}
 use Rattle.conditions.specs.declared.Shortcuts.{Shortcuts}
-use Rattle.conditions.specs.Conditions.{shortcutsOf, Conditions, nothingInForce, inForceAt}
+use Rattle.conditions.specs.Conditions.{Conditions, nothingInForce, inForceAt}
+use Rattle.conditions.specs.Shortcuts.{shortcutsOf}
 use Rattle.conditions.specs.Values.{valuesTo, values-at}
 use Rattle.conditions.specs.Puts.{puts, puts-length, puts-before, puts-at}
 

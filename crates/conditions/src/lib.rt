@@ -7,7 +7,8 @@ ghost use mathlib.Core.Path.{_≡_};
 ghost use Prim.Native.Nat.{_+_, _≤_, _<_};
 ghost use lib.ListN.{length};
 ghost use Rattle.sheets.specs.Good.{GoodSegment, GoodRoad, GoodPeriod};
-ghost use Rattle.conditions.specs.Conditions.{partsAt, loweredBy, inForce, easyBelow, shortcutsOf, Under, conditionsOf, inForceAt};
+ghost use Rattle.conditions.specs.Conditions.{partsAt, loweredBy, inForce, Under, conditionsOf, inForceAt};
+ghost use Rattle.conditions.specs.Shortcuts.{easyBelow, shortcutsOf};
 ghost use Rattle.conditions.specs.Good.{GoodGlobals, GoodPlace};
 ghost use Rattle.conditions.specs.Row.{withInForce, conditionsIn, HasShortcuts};
 

@@ -260,7 +260,7 @@ fn make_steps(f: Facility, k: u32) -> Facility
     let state = f.state;
     let row = conditions::work_out(&road, &period);
     let arrives = wide(steps::arrived(&row));
-    let mut cells = steps::cells_of(state);
+    let mut cells = steps::cell_row(state);
     let mut ends = Ends {
         origin: state.origin,
         exit: state.exit,

@@ -29,12 +29,12 @@ cellAt row i = record {
 }
 
 -- the cells of all segments
-abbrev pub cellsOf : List ℕ → List Cell
-cellsOf row = valuesTo (cellAt row) 64
+abbrev pub cellsIn : List ℕ → List Cell
+cellsIn row = valuesTo (cellAt row) 64
 
 -- the state
 abbrev pub stateIn : List ℕ → Ends → State
-stateIn row ends = record { cells = cellsOf row; origin = ends .origin; exit = ends .exit }
+stateIn row ends = record { cells = cellsIn row; origin = ends .origin; exit = ends .exit }
 
 -- the row with the cell of segment i put
 abbrev pub numbersOf : Cell → List ℕ
@@ -75,19 +75,19 @@ module _ (row : List ℕ) (i : ℕ) (cell : Cell) where
         rw (stays 0 (omega arith), stays 1 (omega arith), stays 2 (omega arith), stays 3 (omega arith), stays 4 (omega arith), stays 5 (omega arith))
 
   module _ (long : length row ≡ 384) (h : i < 64) where
-    put-same : (j : ℕ) → j < 64 → (t : Bool) → ltb j i ≡ t → cellAt (withCell row i cell) j ≡ getD (set (cellsOf row) i cell) j noCell
+    put-same : (j : ℕ) → j < 64 → (t : Bool) → ltb j i ≡ t → cellAt (withCell row i cell) j ≡ getD (set (cellsIn row) i cell) j noCell
     put-same j l true e =
         let b = ltb-true j i e in
-        with-cell-before j b ∙ sym (values-at (cellAt row) 64 j noCell l) ∙ sym (getD-set-other (cellsOf row) i j cell noCell (λ q. omega arith))
+        with-cell-before j b ∙ sym (values-at (cellAt row) 64 j noCell l) ∙ sym (getD-set-other (cellsIn row) i j cell noCell (λ q. omega arith))
     put-same j l false e =
         ⊎-elim
-        (λ (q : i ≡ j). rw (← q) (with-cell-at (omega arith) ∙ sym (getD-set-same (cellsOf row) i cell noCell (omega (arith, values-length (cellAt row) 64)))))
-        (λ (b : i < j). with-cell-behind j b ∙ sym (values-at (cellAt row) 64 j noCell l) ∙ sym (getD-set-other (cellsOf row) i j cell noCell (λ q. omega arith)))
+        (λ (q : i ≡ j). rw (← q) (with-cell-at (omega arith) ∙ sym (getD-set-same (cellsIn row) i cell noCell (omega (arith, values-length (cellAt row) 64)))))
+        (λ (b : i < j). with-cell-behind j b ∙ sym (values-at (cellAt row) 64 j noCell l) ∙ sym (getD-set-other (cellsIn row) i j cell noCell (λ q. omega arith)))
         (eq-or-lt-of-le {n = i} {m = j} (ltb-false j i e))
 
     -- as a list of cells
-    pub cells-put : cellsOf (withCell row i cell) ≡ set (cellsOf row) i cell
+    pub cells-put : cellsIn (withCell row i cell) ≡ set (cellsIn row) i cell
     cells-put =
-        values-are (cellAt (withCell row i cell)) 64 (set (cellsOf row) i cell) noCell
-        (length-set (cellsOf row) i cell ∙ values-length (cellAt row) 64)
+        values-are (cellAt (withCell row i cell)) 64 (set (cellsIn row) i cell) noCell
+        (length-set (cellsIn row) i cell ∙ values-length (cellAt row) 64)
         (λ j l. put-same j l (ltb j i) refl)

@@ -13,13 +13,14 @@ use Rattle.rules.specs.declared.Flow.{Flow}
 use Rattle.steps.specs.declared.Sent.{Sent}
 use Rattle.rules.specs.declared.Split.{Split}
 use Rattle.steps.specs.declared.State.{State}
-use Rattle.conditions.specs.Conditions.{shortcutsOf, Conditions, inForceAt}
+use Rattle.conditions.specs.Conditions.{Conditions, inForceAt}
+use Rattle.conditions.specs.Shortcuts.{shortcutsOf}
 use Rattle.conditions.specs.Values.{values-at}
 use Rattle.rules.specs.Rules.{off, through, leaving}
 use Rattle.rules.specs.Split.{GoodSplit, through-most}
 use Rattle.steps.specs.Place.{splitOf, mostOf, onwardOf, sentOf, inflowOf, leavingOf, movedOf}
 use Rattle.steps.specs.Step.{noCell, cellIn, mainWishAt, queuedAt, flowAt, mainFlowAt, nextCell, replaced, stepped, sumTo, leftOf}
-use Rattle.steps.specs.CellRow.{cellAt, cellsOf, stateIn, withCell, with-cell-length, cells-put}
+use Rattle.steps.specs.CellRow.{cellAt, cellsIn, stateIn, withCell, with-cell-length, cells-put}
 use Rattle.conditions.specs.Good.{GoodPlace, GoodConditions}
 use Rattle.steps.specs.Held.{Held, Bounded}
 use Rattle.steps.specs.Laws.{all-go, exit-exact, goes-on, good-split, let-out, let-out-parts, main-flow-at, most-capacity, off-most-at, origin-flow, ramp-limit, ramp-queue, taken-in}
@@ -110,7 +111,7 @@ pub record Passing (c : Conditions) (state : State) (last origin : ℕ) (row : L
   pub last-one : last + 1 ≡ c .segments
   pub origin-is : origin ≡ state .origin + c .demand - mainFlowAt c state zero
   pub long : length row ≡ 384
-  pub cells-are : cellsOf row ≡ replaced (nextCell c state) i (state .cells)
+  pub cells-are : cellsIn row ≡ replaced (nextCell c state) i (state .cells)
   pub flow-is : flow ≡ flowAt c state i
   pub left-is : left ≡ sumTo (λ j. nextCell c state j .off) i
 
@@ -129,7 +130,7 @@ module _ (c : Conditions) (state : State) (demand : ℕ) (flow : Flow) (good : G
   pub started : (last : ℕ) (row : List ℕ) →
       last ≡ c .segments - 1 →
       length row ≡ 384 →
-      cellsOf row ≡ state .cells →
+      cellsIn row ≡ state .cells →
       Passing c state last (state .origin + demand - flow .main) row flow 0 0
   unfolding replaced sumTo
   started last row e l same = record {
@@ -162,7 +163,7 @@ module _ (c : Conditions) (state : State) (last origin : ℕ) (row : List ℕ) (
       )
 
   module _ (sent : Sent) (sending : sent ≡ sentOf (inForceAt c i) (cellIn state i)) (small : i < 64) where
-    next-cells : (after : Cell) → after ≡ nextCell c state i → cellsOf (withCell row i after) ≡ replaced (nextCell c state) (i + 1) (state .cells)
+    next-cells : (after : Cell) → after ≡ nextCell c state i → cellsIn (withCell row i after) ≡ replaced (nextCell c state) (i + 1) (state .cells)
     unfolding replaced
     next-cells after e = cells-put row i after (at .long) small ∙ rw (add-one, at .cells-are, e)
 

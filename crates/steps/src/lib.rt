@@ -20,12 +20,13 @@ use rules::wish_to_leave;
 ghost use mathlib.Core.Path.{_≡_};
 ghost use Prim.Native.Nat.{_*_, _≤_, _<_};
 ghost use lib.ListN.{length};
-ghost use Rattle.conditions.specs.Conditions.{inForceAt, shortcutsOf};
+ghost use Rattle.conditions.specs.Conditions.{inForceAt};
+ghost use Rattle.conditions.specs.Shortcuts.{shortcutsOf};
 ghost use Rattle.conditions.specs.Good.{GoodPlace, GoodConditions};
 ghost use Rattle.conditions.specs.Row.{conditionsIn, HasShortcuts};
 ghost use Rattle.steps.specs.Place.{splitOf, sentOf, supplyOf, inflowOf, leavingOf, movedOf};
 ghost use Rattle.steps.specs.Step.{freshState, stepped, arrivedOf, leftOf, storedOf};
-ghost use Rattle.steps.specs.CellRow.{cellAt, withCell, cellsOf, stateIn};
+ghost use Rattle.steps.specs.CellRow.{cellAt, withCell, cellsIn, stateIn};
 ghost use Rattle.steps.specs.Held.{Held, Bounded};
 ghost use Rattle.steps.specs.Passing.{Movable};
 
@@ -170,8 +171,8 @@ fn put_cell(cells: &mut [u32; 384], i: usize, cell: Cell)
 }
 
 // The cells of a state as a row.
-pub fn cells_of(state: State) -> [u32; 384]
-    ensures { λ r. ⌜ (cellsOf r ≡ state .cells) × (length r ≡ 384) ⌝ }
+pub fn cell_row(state: State) -> [u32; 384]
+    ensures { λ r. ⌜ (cellsIn r ≡ state .cells) × (length r ≡ 384) ⌝ }
 {
     let mut cells = [0u32; 384];
     let mut i: usize = 0;

@@ -67,7 +67,7 @@ fn run(row: &[u32; 771], road: &[u32; 452], count: u64)
     requires { ⌜ GoodConditions (conditionsIn (now row)) × HasShortcuts (now row) × (segments (now road) ≤ 64) × (count < 256) ⌝ }
 {
     let each = arithmetic::wide(steps::arrived(row));
-    let mut cells = steps::cells_of(steps::fresh());
+    let mut cells = steps::cell_row(steps::fresh());
     let mut ends = Ends { origin: 0, exit: 0 };
     let mut arrived: u64 = 0;
     let mut left: u64 = 0;

@@ -1,7 +1,7 @@
 -- By whether the jam is below C.
 use native.Mathlib.Omega.{arith}
 use borrow.Author.Tests.{lt-ltb, le-ltb}
-use Rattle.conditions.specs.Conditions.{easyBelow}
+use Rattle.conditions.specs.Shortcuts.{easyBelow}
 use Rattle.conditions.proofs.easy_below.Statement.{statement}
 use Rattle.conditions.proofs.easy_below.Tie as tie
 

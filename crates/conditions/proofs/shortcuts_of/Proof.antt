@@ -1,6 +1,6 @@
 -- The two numbers.
 use native.Mathlib.Omega.{arith}
-use Rattle.conditions.specs.Conditions.{shortcutsOf}
+use Rattle.conditions.specs.Shortcuts.{shortcutsOf}
 use Rattle.conditions.proofs.shortcuts_of.Statement.{statement}
 use Rattle.conditions.proofs.shortcuts_of.Tie as tie
 

@@ -31,14 +31,14 @@ arrived-requires c κs = let p = c .before .before .before .before .before .befo
 wide-requires : tie.Need-wide-requires Inv-loop μ-loop
 wide-requires c κs = tt
 
-cells-of-requires : tie.Need-cells-of-requires Inv-loop μ-loop
-cells-of-requires c κs = tt
+cell-row-requires : tie.Need-cell-row-requires Inv-loop μ-loop
+cell-row-requires c κs = tt
 
 loop-holds : tie.Need-loop-holds Inv-loop μ-loop
 loop-holds c =
     let p = c .before .before .before .before .before .before .before .before .before .before .pre in
     let e = filled _ _ p _ (c .before .before .before .before .work-out .ensures .0) in
-    (turn-start _ _ p _ (rw (c .cells-of .ensures .0)), c .before .wide .ensures .0 ∙ rw e at (c .before .before .arrived .ensures), e, c .before .before .before .before .work-out .ensures .1, c .cells-of .ensures .1)
+    (turn-start _ _ p _ (rw (c .cell-row .ensures .0)), c .before .wide .ensures .0 ∙ rw e at (c .before .before .arrived .ensures), e, c .before .before .before .before .work-out .ensures .1, c .cell-row .ensures .1)
 
 step-requires : tie.Need-step-requires Inv-loop μ-loop
 step-requires c κs =
@@ -94,4 +94,4 @@ returns : tie.Need-returns Inv-loop μ-loop
 returns c = let at = c .before .before .before .before in rw (c .before .state-of .ensures) (turn-end _ _ (entry at .pre) _ _ _ _ _ (at .loop .inv .0) (c .before .before .before .loop-test .left))
 
 pub make-steps-spec : {M : Type 1} → statement M
-make-steps-spec = tie.close (tie.spec Inv-loop μ-loop work-out-requires arrived-requires wide-requires cells-of-requires loop-holds step-requires add-arrived wide-requires-2 add-left less-wide-requires add-partsteps add-i loop-less loop-again state-of-requires add-t19 returns)
+make-steps-spec = tie.close (tie.spec Inv-loop μ-loop work-out-requires arrived-requires wide-requires cell-row-requires loop-holds step-requires add-arrived wide-requires-2 add-left less-wide-requires add-partsteps add-i loop-less loop-again state-of-requires add-t19 returns)

@@ -1,6 +1,6 @@
 -- E where there are few parts, else P by it.
 use mathlib.Core.Path.{sym}
-use Rattle.conditions.specs.Conditions.{shortcutsOf}
+use Rattle.conditions.specs.Shortcuts.{shortcutsOf}
 use Rattle.rules.specs.Formulas.{entrance-most}
 use Rattle.rules.specs.Closed.{supply-easy}
 use Rattle.steps.specs.Place.{supplyOf, entranceOf}

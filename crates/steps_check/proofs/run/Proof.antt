@@ -31,13 +31,13 @@ wide-requires c κs = tt
 fresh-requires : tie.Need-fresh-requires Inv-loop μ-loop
 fresh-requires c κs = tt
 
-cells-of-requires : tie.Need-cells-of-requires Inv-loop μ-loop
-cells-of-requires c κs = tt
+cell-row-requires : tie.Need-cell-row-requires Inv-loop μ-loop
+cell-row-requires c κs = tt
 
 loop-holds : tie.Need-loop-holds Inv-loop μ-loop
 loop-holds c =
-    let e = c .cells-of .ensures .0 ∙ ap (λ (s : State). s .cells) (c .before .fresh .ensures) in
-    (omega arith, rw e (bounded-fresh _), omega arith, omega arith, omega arith, omega (arith, c .before .before .wide .ensures .0, c .before .before .before .arrived .ensures, arrived-most _ (c .before .before .before .before .pre .0)), c .cells-of .ensures .1)
+    let e = c .cell-row .ensures .0 ∙ ap (λ (s : State). s .cells) (c .before .fresh .ensures) in
+    (omega arith, rw e (bounded-fresh _), omega arith, omega arith, omega arith, omega (arith, c .before .before .wide .ensures .0, c .before .before .before .arrived .ensures, arrived-most _ (c .before .before .before .before .pre .0)), c .cell-row .ensures .1)
 
 step-requires : tie.Need-step-requires Inv-loop μ-loop
 step-requires c κs =
@@ -94,4 +94,4 @@ returns : tie.Need-returns Inv-loop μ-loop
 returns c = search needs
 
 pub run-spec : {M : Type 1} → statement M
-run-spec = tie.close (tie.spec Inv-loop μ-loop arrived-requires wide-requires fresh-requires cells-of-requires loop-holds step-requires add-arrived wide-requires-2 add-left less-wide-requires add-partsteps add-t state-of-requires say-sums-requires say-cells-requires loop-less loop-again returns)
+run-spec = tie.close (tie.spec Inv-loop μ-loop arrived-requires wide-requires fresh-requires cell-row-requires loop-holds step-requires add-arrived wide-requires-2 add-left less-wide-requires add-partsteps add-t state-of-requires say-sums-requires say-cells-requires loop-less loop-again returns)

@@ -6,13 +6,13 @@ use native.Mathlib.Numerals.{add-one}
 use lib.ListN.{length, getD, length-map, length-replicate}
 use Rattle.conditions.specs.Values.{values-are, values-length}
 use Rattle.steps.specs.Step.{noCell, replaced}
-use Rattle.steps.specs.CellRow.{cellsOf, cells-put, with-cell-length}
+use Rattle.steps.specs.CellRow.{cellsIn, cells-put, with-cell-length}
 use Rattle.steps.specs.Sums.{replaced-all}
-use Rattle.steps.proofs.cells_of.Statement.{statement}
-use Rattle.steps.proofs.cells_of.Tie as tie
+use Rattle.steps.proofs.cell_row.Statement.{statement}
+use Rattle.steps.proofs.cell_row.Tie as tie
 
 abbrev Inv-loop : tie.InvT-loop
-Inv-loop state cells₀ i₀ cells i = (i ≤ 64) × (length cells ≡ 384) × (cellsOf cells ≡ replaced (λ j. getD (state .cells) j noCell) i (cellsOf cells₀))
+Inv-loop state cells₀ i₀ cells i = (i ≤ 64) × (length cells ≡ 384) × (cellsIn cells ≡ replaced (λ j. getD (state .cells) j noCell) i (cellsIn cells₀))
 
 abbrev μ-loop : tie.MeasureT-loop
 μ-loop state cells₀ i₀ cells i = 64 - i
@@ -50,5 +50,5 @@ returns c =
     let g = values-are (λ j. getD (c .before .before .args .t1 .cells) j noCell) 64 (c .before .before .args .t1 .cells) noCell l (λ j h. refl) in
     (v .2 ∙ rw e (replaced-all _ 64 _ noCell (values-length _ 64) ∙ g), v .1)
 
-pub cells-of-spec : {M : Type 1} → statement M
-cells-of-spec = tie.close (tie.spec Inv-loop μ-loop loop-holds mul-cell element-copy-out-cell put-cell-requires add-i loop-less loop-again returns)
+pub cell-row-spec : {M : Type 1} → statement M
+cell-row-spec = tie.close (tie.spec Inv-loop μ-loop loop-holds mul-cell element-copy-out-cell put-cell-requires add-i loop-less loop-again returns)
