@@ -19,6 +19,9 @@ const REPORTS: u32 = 6_400;
 /// Demand through the day, in percent of the usual.
 const LOAD: [u64; 18] = [30, 35, 45, 70, 95, 110, 100, 75, 60, 55, 60, 80, 105, 115, 90, 60, 45, 35];
 
+/// The place of its largest.
+const PEAK: usize = 13;
+
 #[derive(Clone, Copy)]
 enum Ramps {
     Everywhere,
@@ -49,40 +52,41 @@ pub fn run() -> bool {
     single_calls()
 }
 
-/// Times single calls at the day's peak; false where the two sides' answers differ. To the tuned version steps one by one are a run.
+/// Times single calls under the sheet of the day's peak; false where the two sides' answers differ. To the tuned version steps one by
+/// one are a run.
 fn single_calls() -> bool {
     let sheets = sheets(MOST_SEGMENTS, LOAD.len() as u64, Ramps::Everywhere);
-    let (road, period) = (&sheets[0], &sheets[6]);
+    let (road, period) = (&sheets[0], &sheets[1 + PEAK]);
     let one = [&road[..], period].concat();
     let all = [&road[..], &period.repeat(MOST_PERIODS as usize)].concat();
     let part_steps = engine::single_steps(road, period, MOST_PERIODS as u32);
-    if engine::reports(road, period, REPORTS) != tuned::reports(&one, REPORTS as usize)
-        || part_steps != tuned::forecast(&all).numbers()[6]
-    {
+    let same_steps = matches!(tuned::forecast(&all), Outcome::Forecast(forecast) if forecast.part_steps == part_steps);
+    if !same_steps || engine::reports(road, period, REPORTS) != tuned::reports(&one, REPORTS as usize) {
         println!("the answers of single calls differ");
         return false;
     }
-    println!("one call, {MOST_SEGMENTS} segments, at the day's peak: engine / tuned Rust");
+    println!("one call, {MOST_SEGMENTS} segments, under a peak sheet: engine / tuned Rust");
+    // so many reports that the period before them hardly counts: the tuned version's are short
+    let often = 100;
+    let engine_reports = || _ = black_box(engine::reports(black_box(road), period, REPORTS));
+    let tuned_reports = || _ = black_box(tuned::reports(black_box(&one), often * REPORTS as usize));
+    ratio("segment report", engine_reports, tuned_reports, often as f64);
     let steps = || _ = black_box(engine::single_steps(black_box(road), period, MOST_PERIODS as u32));
-    ratio(
-        "segment report",
-        || _ = black_box(engine::reports(black_box(road), period, REPORTS)),
-        || _ = black_box(tuned::reports(black_box(&one), REPORTS as usize)),
-    );
-    ratio("run of 1 step", steps, || run_other(&all, tuned::forecast));
+    ratio("run of 1 step", steps, || run_other(&all, tuned::forecast), 1.0);
     println!("one call of the engine: run of 1 step / a 60th of a run of 60");
-    ratio("run of 1 step", steps, || run_engine(&all));
+    ratio("run of 1 step", steps, || run_engine(&all), 1.0);
     true
 }
 
 type Forecast = fn(&[u8]) -> Outcome;
 
 fn against(name: &str, study: &[u8], forecast: Forecast) {
-    ratio(name, || run_engine(study), || run_other(study, forecast));
+    ratio(name, || run_engine(study), || run_other(study, forecast), 1.0);
 }
 
-/// Times both sides alternately, each first in every other round, and prints the first's time by the second's.
-fn ratio(name: &str, engine: impl Fn(), other: impl Fn()) {
+/// Times both sides alternately, each first in every other round, and prints the first's time by the second's, which does its work
+/// `often` times as often.
+fn ratio(name: &str, engine: impl Fn(), other: impl Fn(), often: f64) {
     let mut ratios = Vec::new();
     for round in 0..ROUNDS {
         let (engine, other) = if round % 2 == 0 {
@@ -92,7 +96,7 @@ fn ratio(name: &str, engine: impl Fn(), other: impl Fn()) {
             let other = time(&other);
             (time(&engine), other)
         };
-        ratios.push(engine / other);
+        ratios.push(engine / other * often);
     }
     ratios.sort_by(f64::total_cmp);
     let (low, middle, high) = (ratios[ROUNDS / 4], ratios[ROUNDS / 2], ratios[ROUNDS - 1 - ROUNDS / 4]);

@@ -4,7 +4,7 @@ use sheets::Ramp;
 use sheets::RoadGlobals;
 use sheets::Segment;
 ghost use mathlib.Core.Path.{_≡_};
-ghost use Prim.Native.Nat.{_+_, _≤_, _<_};
+ghost use Prim.Native.Nat.{_≤_, _<_};
 ghost use lib.ListN.{length};
 ghost use Rattle.sheets.specs.Good.{GoodSegment, GoodRoad, GoodPeriod};
 ghost use Rattle.conditions.specs.Conditions.{partsAt, loweredBy, inForce, Under, conditionsOf, inForceAt};
@@ -81,6 +81,7 @@ fn easy_below(jam: u32, critical: u32, capacity: u32) -> u32
     least(critical, jam - capacity) + 1
 }
 
+// The two of what is in force at a segment.
 fn shortcuts_of(here: InForce) -> Shortcuts
     requires { ⌜ GoodPlace here ⌝ }
     ensures { λ r. ⌜ r ≡ shortcutsOf here ⌝ }

@@ -32,7 +32,7 @@ pub fn wish_to_leave(n: u32, capacity: u32, reach: u32, length: u32) -> u32
 }
 
 // off(y), and what is left of y: through(y).
-pub fn off_of(split: Split, y: u32) -> u32
+fn off_of(split: Split, y: u32) -> u32
     requires { ⌜ GoodSplit split × (y ≤ 20000) ⌝ }
     ensures { λ r. ⌜ r ≡ off split y ⌝ }
 {
@@ -87,7 +87,7 @@ pub fn supply_of(entrance: u32, capacity: u32, jam: u32, critical: u32, n: u32) 
 }
 
 // r. The ramp's share of the supply is worked out only where the rest is less than the ramp's wish.
-pub fn ramp_flow(p: u32, lanes: u32, m: u32, w: u32) -> u32
+fn ramp_flow(p: u32, lanes: u32, m: u32, w: u32) -> u32
     requires { ⌜ (1 ≤ lanes) × (lanes ≤ 8) ⌝ }
     ensures { λ r. ⌜ r ≡ rampFlow p lanes m w ⌝ }
 {
@@ -103,7 +103,7 @@ pub fn ramp_flow(p: u32, lanes: u32, m: u32, w: u32) -> u32
 }
 
 // f.
-pub fn main_flow(m: u32, p: u32, r: u32) -> u32
+fn main_flow(m: u32, p: u32, r: u32) -> u32
     ensures { λ f. ⌜ f ≡ mainFlow m p r ⌝ }
 {
     least(m, less(p, r))

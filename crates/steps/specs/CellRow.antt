@@ -32,16 +32,17 @@ cellAt row i = record {
 abbrev pub cellsIn : List ℕ → List Cell
 cellsIn row = valuesTo (cellAt row) 64
 
--- the state
+-- the state that they are, with the queue o and the exit's flow beside them
 abbrev pub stateIn : List ℕ → Ends → State
 stateIn row ends = record { cells = cellsIn row; origin = ends .origin; exit = ends .exit }
 
--- the row with the cell of segment i put
-abbrev pub numbersOf : Cell → List ℕ
-numbersOf c = c .n ∷ c .q ∷ c .main ∷ c .ramp ∷ c .off ∷ c .out ∷ []
+-- the numbers of a cell, in the row's order
+abbrev pub cellNumbers : Cell → List ℕ
+cellNumbers c = c .n ∷ c .q ∷ c .main ∷ c .ramp ∷ c .off ∷ c .out ∷ []
 
+-- the row with the cell of segment i put
 unfoldable pub withCell : List ℕ → ℕ → Cell → List ℕ
-withCell row i cell = puts row (6 * i) 0 (numbersOf cell)
+withCell row i cell = puts row (6 * i) 0 (cellNumbers cell)
 
 -- ---- the cell that is put is read there, and the others stay
 pub cell-in : (row : List ℕ) (ends : Ends) (i : ℕ) → i < 64 → cellIn (stateIn row ends) i ≡ cellAt row i
@@ -53,26 +54,23 @@ module _ (row : List ℕ) (i : ℕ) (cell : Cell) where
   with-cell-length = puts-length _ _ _ _
 
   module _ (h : 6 * i + 5 < length row) where
-    put-at : (m : ℕ) → m < 6 → getD (puts row (6 * i) 0 (numbersOf cell)) (6 * i + (0 + m)) 0 ≡ getD (numbersOf cell) m 0
-    put-at m s = puts-at row (6 * i) 0 m (numbersOf cell) s (omega arith)
+    put-at : (m : ℕ) → m < 6 → getD (puts row (6 * i) 0 (cellNumbers cell)) (6 * i + (0 + m)) 0 ≡ getD (cellNumbers cell) m 0
+    put-at m s = puts-at row (6 * i) 0 m (cellNumbers cell) s (omega arith)
 
     with-cell-at : cellAt (withCell row i cell) i ≡ cell
     unfolding cellAt withCell
     with-cell-at = rw (put-at 0 (omega arith), put-at 1 (omega arith), put-at 2 (omega arith), put-at 3 (omega arith), put-at 4 (omega arith), put-at 5 (omega arith))
 
   -- before it and behind it
-  module _ (j : ℕ) where
-    with-cell-before : j < i → cellAt (withCell row i cell) j ≡ cellAt row j
-    unfolding cellAt withCell
-    with-cell-before h =
-        let stays : (m : ℕ) → m < 6 → getD (puts row (6 * i) 0 (numbersOf cell)) (6 * j + m) 0 ≡ getD row (6 * j + m) 0 = λ m s. puts-before row (6 * i) 0 (6 * j + m) (numbersOf cell) (omega arith) in
-        rw (stays 0 (omega arith), stays 1 (omega arith), stays 2 (omega arith), stays 3 (omega arith), stays 4 (omega arith), stays 5 (omega arith))
+  with-cell-stays : (j : ℕ) → ((m : ℕ) → m < 6 → getD (puts row (6 * i) 0 (cellNumbers cell)) (6 * j + m) 0 ≡ getD row (6 * j + m) 0) → cellAt (withCell row i cell) j ≡ cellAt row j
+  unfolding cellAt withCell
+  with-cell-stays j stays = rw (stays 0 (omega arith), stays 1 (omega arith), stays 2 (omega arith), stays 3 (omega arith), stays 4 (omega arith), stays 5 (omega arith))
 
-    with-cell-behind : i < j → cellAt (withCell row i cell) j ≡ cellAt row j
-    unfolding cellAt withCell
-    with-cell-behind h =
-        let stays : (m : ℕ) → m < 6 → getD (puts row (6 * i) 0 (numbersOf cell)) (6 * j + m) 0 ≡ getD row (6 * j + m) 0 = λ m s. puts-after row (6 * i) 0 (6 * j + m) (numbersOf cell) (omega arith) in
-        rw (stays 0 (omega arith), stays 1 (omega arith), stays 2 (omega arith), stays 3 (omega arith), stays 4 (omega arith), stays 5 (omega arith))
+  with-cell-before : (j : ℕ) → j < i → cellAt (withCell row i cell) j ≡ cellAt row j
+  with-cell-before j h = with-cell-stays j (λ m s. puts-before row (6 * i) 0 (6 * j + m) (cellNumbers cell) (omega arith))
+
+  with-cell-behind : (j : ℕ) → i < j → cellAt (withCell row i cell) j ≡ cellAt row j
+  with-cell-behind j h = with-cell-stays j (λ m s. puts-after row (6 * i) 0 (6 * j + m) (cellNumbers cell) (omega arith))
 
   module _ (long : length row ≡ 384) (h : i < 64) where
     put-same : (j : ℕ) → j < 64 → (t : Bool) → ltb j i ≡ t → cellAt (withCell row i cell) j ≡ getD (set (cellsIn row) i cell) j noCell

@@ -28,7 +28,7 @@ use Rattle.steps.specs.Balance.{left-is}
 use Rattle.steps.specs.Bounds.{off-most-after}
 use Rattle.steps.specs.Sums.{replaced-beyond, sum-more, sum-most}
 
--- what moving a cell on asks, so that nothing overflows
+-- what moving a cell on asks: bounds, so that nothing overflows, and a flow ahead of those who go on, so that the rest is off(y)
 pub record Movable (here : InForce) (cell : Cell) (flow : Flow) (sent : Sent) (ahead : ℕ) : Type 0 where
   pub good : GoodPlace here
   pub held : Held 5760 cell

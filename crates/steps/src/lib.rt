@@ -18,7 +18,7 @@ use rules::supply_of;
 use rules::through_of;
 use rules::wish_to_leave;
 ghost use mathlib.Core.Path.{_≡_};
-ghost use Prim.Native.Nat.{_*_, _≤_, _<_};
+ghost use Prim.Native.Nat.{_≤_, _<_};
 ghost use lib.ListN.{length};
 ghost use Rattle.conditions.specs.Conditions.{inForceAt};
 ghost use Rattle.conditions.specs.Shortcuts.{shortcutsOf};
@@ -48,7 +48,7 @@ pub struct State {
     pub exit: u32,
 }
 
-// What a state has beside its cells.
+// What a state has beside its cells: the queue o, and the flow f at the exit.
 pub struct Ends {
     pub origin: u32,
     pub exit: u32,
@@ -185,19 +185,19 @@ pub fn cell_row(state: State) -> [u32; 384]
 }
 
 // The state of a row of cells and the ends.
-pub fn state_of(row: &[u32; 384], ends: Ends) -> State
-    ensures { λ r. ⌜ r ≡ stateIn (now (row .entry)) ends ⌝ }
+pub fn state_of(cells: &[u32; 384], ends: Ends) -> State
+    ensures { λ r. ⌜ r ≡ stateIn (now (cells .entry)) ends ⌝ }
 {
     let state = fresh();
-    let mut cells = state.cells;
+    let mut all = state.cells;
     let mut i: usize = 0;
     while i < 64 {
-        let cell = cell_at(row, i);
-        cells[i] = cell;
+        let cell = cell_at(cells, i);
+        all[i] = cell;
         i += 1;
     }
     State {
-        cells,
+        cells: all,
         origin: ends.origin,
         exit: ends.exit,
     }

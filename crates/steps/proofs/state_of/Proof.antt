@@ -12,10 +12,10 @@ use Rattle.steps.proofs.state_of.Statement.{statement}
 use Rattle.steps.proofs.state_of.Tie as tie
 
 abbrev Inv-loop : tie.InvT-loop
-Inv-loop row ends cells₀ i₀ cells i = (i ≤ 64) × (cells ≡ replaced (cellAt row) i (freshState .cells))
+Inv-loop cells ends all₀ i₀ all i = (i ≤ 64) × (all ≡ replaced (cellAt cells) i (freshState .cells))
 
 abbrev μ-loop : tie.MeasureT-loop
-μ-loop row ends cells₀ i₀ cells i = 64 - i
+μ-loop cells ends all₀ i₀ all i = 64 - i
 
 fresh-requires : tie.Need-fresh-requires Inv-loop μ-loop
 fresh-requires c κs = tt
@@ -27,11 +27,11 @@ loop-holds c = (omega arith, ap (λ (x : State). x .cells) (c .before .fresh .en
 cell-at-requires : tie.Need-cell-at-requires Inv-loop μ-loop
 cell-at-requires c κs = omega (arith, c .loop-test .taken)
 
-mul-cells : tie.Need-mul-cells Inv-loop μ-loop
-mul-cells c = omega (arith, c .before .loop-test .taken)
+mul-all : tie.Need-mul-all Inv-loop μ-loop
+mul-all c = omega (arith, c .before .loop-test .taken)
 
-array-set-from-cells : tie.Need-array-set-from-cells Inv-loop μ-loop
-array-set-from-cells c = omega (arith, c .before .loop-test .taken)
+array-set-from-all : tie.Need-array-set-from-all Inv-loop μ-loop
+array-set-from-all c = omega (arith, c .before .loop-test .taken)
 
 add-i : tie.Need-add-i Inv-loop μ-loop
 add-i c = omega (arith, c .before .loop-test .taken)
@@ -47,7 +47,7 @@ returns : tie.Need-returns Inv-loop μ-loop
 returns c =
     let v = c .before .loop .inv in
     let e : c .before .loop .i ≡ 64 = omega (arith, v .0) in
-    rw (v .1, e, replaced-all (cellAt (c .before .before .before .before .args .row .now)) 64 (freshState .cells) noCell (length-replicate 64 noCell))
+    rw (v .1, e, replaced-all (cellAt (c .before .before .before .before .args .cells .now)) 64 (freshState .cells) noCell (length-replicate 64 noCell))
 
 pub state-of-spec : {M : Type 1} → statement M
-state-of-spec = tie.close (tie.spec Inv-loop μ-loop fresh-requires loop-holds cell-at-requires mul-cells array-set-from-cells add-i loop-less loop-again returns)
+state-of-spec = tie.close (tie.spec Inv-loop μ-loop fresh-requires loop-holds cell-at-requires mul-all array-set-from-all add-i loop-less loop-again returns)
