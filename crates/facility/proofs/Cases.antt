@@ -12,8 +12,8 @@ use Rattle.sheets.specs.Refusals.{road-refusal, period-refusal}
 use Rattle.sheets.specs.Write.{rowBytes, roadRow, periodRow}
 use Rattle.conditions.specs.Conditions.{segments}
 use Rattle.steps.specs.Step.{cellIn, storedOf}
-use Rattle.facility.specs.declared.Facility.{Facility}
-use Rattle.facility.specs.Sound.{sound}
+use Rattle.door.specs.declared.Facility.{Facility}
+use Rattle.door.specs.Sound.{sound}
 use Rattle.facility.specs.Calls.{freshOn, empty, refused, done, laidBy, layOf, unfinished, withSheet, takenBy, takeOf, stepsOf, runOf, reported, noReport, levelAt, reportOf, totalsOf, writeRoadOf, roadBuffer, writePeriodOf, periodBuffer}
 
 -- ---- a sheet that was read, and one that was refused

@@ -14,9 +14,9 @@ use Rattle.sheets.specs.Read.{Rows, ReadRow, RefusedAt, readRoad, readPeriod, p
 use Rattle.sheets.specs.Refusals.{road-refusal}
 use Rattle.conditions.specs.Conditions.{segments}
 use Rattle.steps.specs.Step.{storedOf}
-use Rattle.facility.specs.declared.Facility.{Facility}
+use Rattle.door.specs.declared.Facility.{Facility}
 use Rattle.facility.specs.declared.Reply.{Reply}
-use Rattle.facility.specs.Sound.{sound}
+use Rattle.door.specs.Sound.{sound}
 use Rattle.facility.specs.Calls.{laidBy, layOf, takeOf, runOf, reportOf, totalsOf}
 use Rattle.facility.specs.Ledger.{Call, Take, Run, Report, Totals, Answer, Trail, stateAfter, arrivedIn, leftIn, partstepsIn, Book, opened, withRow, withSteps, running, full, outside, answer, after, answers, bookAfter}
 use Rattle.facility.specs.Answers.{takeSays, runSays, reportSays, totalsSay}

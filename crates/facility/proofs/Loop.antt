@@ -11,8 +11,8 @@ use Rattle.steps.specs.Step.{stepped, arrivedOf, leftOf}
 use Rattle.conditions.specs.Good.{GoodConditions, under, good-conditions}
 use Rattle.steps.specs.Held.{Bounded}
 use Rattle.steps.specs.Bounds.{bounded-longer, bounded-after, arrived-most, left-most}
-use Rattle.facility.specs.declared.Facility.{Facility}
-use Rattle.facility.specs.Sound.{stepsBy}
+use Rattle.door.specs.declared.Facility.{Facility}
+use Rattle.door.specs.Sound.{stepsBy}
 use Rattle.facility.specs.Ready.{Summed, Ready}
 use Rattle.facility.specs.Calls.{conditionsOn, stepOf, stepsOf}
 use Rattle.facility.proofs.Sound.{good-sheet, sheeted-by-some}

@@ -13,7 +13,7 @@ use Rattle.sheets.specs.Refusals.{period-refusal}
 use Rattle.conditions.specs.Conditions.{Conditions, inForceAt, SheetInForce, conditionsOf, segments}
 use Rattle.steps.specs.Step.{cellIn}
 use Rattle.letters.specs.Level.{levelOf}
-use Rattle.facility.specs.Sound.{sheeted, sound}
+use Rattle.door.specs.Sound.{sheeted, sound}
 use Rattle.facility.specs.Calls.{sheetBy, conditionsOn, freshOn, refused, done, unfinished, withSheet, takenBy, takeOf, stepOf, stepsOf, runOf, reported, noReport, levelAt, reportOf, totalsOf}
 use Rattle.facility.specs.Ledger.{Take, Run, Report, Totals, Refused, Ran, stateAfter, arrivedIn, leftIn, partstepsIn, stepFrom, more, Book, conditionsBy, opened, read, withRow, withSteps, reportIn, running, full, outside, answer, after}
 use Rattle.facility.specs.View.{rowIn, view}

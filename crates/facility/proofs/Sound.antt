@@ -11,11 +11,11 @@ use Rattle.sheets.specs.Good.{GoodRoad, GoodPeriod, good-period}
 use Rattle.steps.specs.declared.State.{State}
 use Rattle.steps.specs.Step.{cellIn}
 use Rattle.steps.specs.Held.{Bounded}
-use Rattle.facility.specs.declared.Facility.{Facility}
+use Rattle.door.specs.declared.Facility.{Facility}
 use Rattle.conditions.specs.Conditions.{Under, segments}
 use Rattle.facility.specs.Calls.{sheetBy}
 use Rattle.facility.specs.Ready.{Summed, Sound}
-use Rattle.facility.specs.Sound.{stepsBy, counted, sheeted, heldIn, held, summed, sound}
+use Rattle.door.specs.Sound.{stepsBy, counted, sheeted, heldIn, held, summed, sound}
 
 -- ---- the parts of the test
 pub held-bounded : (ns t : ℕ) (state : State) → held ns t state ≡ true → Bounded ns t state

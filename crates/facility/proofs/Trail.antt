@@ -20,7 +20,7 @@ use Rattle.steps.specs.Held.{Bounded}
 use Rattle.steps.specs.Laws.{stepped-length}
 use Rattle.steps.specs.Bounds.{bounded-after, bounded-fresh, cell-fresh, arrived-most, left-most}
 use Rattle.steps.specs.Claims.{stepped-holds}
-use Rattle.facility.specs.Sound.{stepsBy}
+use Rattle.door.specs.Sound.{stepsBy}
 use Rattle.facility.specs.Ledger.{Call, Take, Run, Report, Totals, Trail, stateAfter, arrivedIn, leftIn, partstepsIn, stepFrom, more, Book, conditionsBy, opened, withRow, withSteps, running, full, outside, after}
 use Rattle.facility.specs.Claims.{Every, none, and, Chained, start, link, Right, Balanced, nothing, still}
 use Rattle.facility.specs.Ready.{Summed}

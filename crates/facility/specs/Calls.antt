@@ -14,12 +14,12 @@ use Rattle.letters.specs.declared.Level.the-variants.{A}
 use Rattle.conditions.specs.Conditions.{Conditions, inForceAt, SheetInForce, None, Under, conditionsOf, segments}
 use Rattle.steps.specs.Step.{cellIn, stepped, freshState, arrivedOf, leftOf, storedOf}
 use Rattle.letters.specs.Level.{levelOf}
-use Rattle.facility.specs.declared.Facility.{Facility}
+use Rattle.door.specs.declared.Facility.{Facility}
 use Rattle.facility.specs.declared.Reply.{Reply}
 use Rattle.facility.specs.declared.SegmentReport.{SegmentReport}
 use Rattle.facility.specs.declared.Sums.{Sums}
 use Rattle.facility.specs.Ledger.{outside}
-use Rattle.facility.specs.Sound.{sound}
+use Rattle.door.specs.Sound.{sound}
 
 -- the row that stands for no sheet
 abbrev pub noSheet : List ℕ

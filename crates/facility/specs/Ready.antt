@@ -5,8 +5,8 @@ use mathlib.Core.Path.{_≡_}
 use Rattle.sheets.specs.Allowed.{roadAllowed}
 use Rattle.steps.specs.Held.{Bounded}
 use Rattle.conditions.specs.Conditions.{segments}
-use Rattle.facility.specs.declared.Facility.{Facility}
-use Rattle.facility.specs.Sound.{stepsBy, sheeted}
+use Rattle.door.specs.declared.Facility.{Facility}
+use Rattle.door.specs.Sound.{stepsBy, sheeted}
 
 -- the sums after t steps
 pub record Summed (t arrived left partsteps : ℕ) : Type 0 where

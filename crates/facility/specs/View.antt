@@ -2,7 +2,7 @@
 use mathlib.Core.List.{List}
 use Prim.Native.Nat.{ℕ}
 use Rattle.conditions.specs.Conditions.{SheetInForce, None, Under}
-use Rattle.facility.specs.declared.Facility.{Facility}
+use Rattle.door.specs.declared.Facility.{Facility}
 use Rattle.facility.specs.Calls.{noSheet}
 use Rattle.facility.specs.Ledger.{Book, stateAfter, arrivedIn, leftIn, partstepsIn}
 

@@ -1,35 +1,20 @@
 // The calls on a facility: a road with its state, its sheet in force and its sums, by value.
-use arithmetic::less;
 use arithmetic::less_wide;
 use arithmetic::wide;
+use door::Facility;
+use door::is_sound;
 use letters::Level;
 use numbers::Written;
-use steps::Cell;
 use steps::Ends;
-use steps::State;
 ghost use mathlib.Core.Path.{_≡_};
-ghost use Prim.Native.Nat.{_≤_, _<_};
+ghost use Prim.Native.Nat.{_<_};
 ghost use Rattle.numbers.specs.Writing.{writing};
 ghost use Rattle.sheets.specs.Good.{GoodRoad};
 ghost use Rattle.sheets.specs.Read.{readPeriod};
 ghost use Rattle.conditions.specs.Conditions.{segments};
 ghost use Rattle.steps.specs.Step.{cellIn};
-ghost use Rattle.facility.specs.Sound.{stepsBy, counted, sheeted, heldIn, held, summed, sound};
 ghost use Rattle.facility.specs.Calls.{freshOn, refused, layOf, unfinished, withSheet, takenBy, takeOf, stepsOf, runOf, reported, noReport, levelAt, reportOf, totalsOf, writeRoadOf, roadBuffer, writePeriodOf, periodBuffer};
 ghost use Rattle.facility.specs.Ready.{Ready};
-
-// A road that is laid, the period sheet in force with the sheets taken so far and the steps made under the last, the state of the
-// step rules, and the sums: arrived, left and part-steps.
-pub struct Facility {
-    pub road: [u32; 452],
-    pub period: [u32; 452],
-    pub taken: u32,
-    pub made: u32,
-    pub state: State,
-    pub arrived: u64,
-    pub left: u64,
-    pub partsteps: u64,
-}
 
 // What laying, taking and running give: refusal is 0, or its number with its offset; used counts the bytes read.
 pub struct Reply {
@@ -58,76 +43,6 @@ pub struct Sums {
     pub left: u64,
     pub stored: u64,
     pub partsteps: u64,
-}
-
-// The steps made so far.
-fn steps_by(taken: u32, made: u32) -> u32
-    requires { ⌜ (taken ≤ 96) × (made ≤ 60) ⌝ }
-    ensures { λ r. ⌜ (r ≡ stepsBy taken made) × (r ≤ 5760) ⌝ }
-{
-    less(60 * taken + made, 60)
-}
-
-fn is_counted(taken: u32, made: u32) -> bool
-    ensures { λ r. ⌜ r ≡ counted taken made ⌝ }
-{
-    (taken <= 96) & (made <= 60)
-}
-
-fn is_sheeted<'a>(taken: u32, road: &'a [u32; 452], period: &'a [u32; 452]) -> bool
-    ensures { λ r. ⌜ r ≡ sheeted taken (now (road .entry)) (now (period .entry)) ⌝ }
-{
-    if taken == 0 {
-        return true;
-    }
-    sheets::is_period(road, period)
-}
-
-fn is_held_in(t: u32, cell: Cell) -> bool
-    requires { ⌜ t ≤ 5760 ⌝ }
-    ensures { λ r. ⌜ r ≡ heldIn t cell ⌝ }
-{
-    (cell.n <= 2880000) & (cell.q <= 10000 * t)
-}
-
-fn is_held(ns: usize, t: u32, state: State) -> bool
-    requires { ⌜ (ns ≤ 64) × (t ≤ 5760) ⌝ }
-    ensures { λ r. ⌜ r ≡ held ns t state ⌝ }
-{
-    let mut ok = true;
-    let mut i: usize = 0;
-    while i < ns {
-        ok = ok & is_held_in(t, state.cells[i]);
-        i += 1;
-    }
-    ok & (state.origin <= 20000 * t)
-}
-
-fn is_summed(t: u64, arrived: u64, left: u64, partsteps: u64) -> bool
-    requires { ⌜ t ≤ 5760 ⌝ }
-    ensures { λ r. ⌜ r ≡ summed t arrived left partsteps ⌝ }
-{
-    (arrived <= 660000 * t) & ((left <= 660000 * t) & (partsteps <= 3801600000 * t))
-}
-
-// Whether a laying and calls can have produced the facility; any other is the empty one.
-fn is_sound(f: Facility) -> bool
-    ensures { λ r. ⌜ r ≡ sound f ⌝ }
-{
-    if !sheets::is_road(&f.road) {
-        return false;
-    }
-    if !is_counted(f.taken, f.made) {
-        return false;
-    }
-    if !is_sheeted(f.taken, &f.road, &f.period) {
-        return false;
-    }
-    let t = steps_by(f.taken, f.made);
-    if !is_held(f.road[0] as usize, t, f.state) {
-        return false;
-    }
-    is_summed(wide(t), f.arrived, f.left, f.partsteps)
 }
 
 // A road just laid.

@@ -1,6 +1,6 @@
 // Plays lists of calls on facilities, good and refused, as the records on standard input say, and prints each call with its answer.
 // A record: the call (1 byte), a number (4 bytes, low first), a place and a buffer's size (2 bytes each), a count (2 bytes) and so many bytes.
-use facility::Facility;
+use door::Facility;
 use facility::Reply;
 use facility::SegmentReport;
 use facility::Sums;

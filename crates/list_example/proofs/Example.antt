@@ -15,7 +15,7 @@ use Rattle.rules.specs.Rules.{largest, roundedUp, wishToLeave, off, through, mo
 use Rattle.steps.specs.Place.{splitOf, wishOf, mostOf, onwardOf, queuedOf, rampWishOf, entranceOf, supplyOf, inflowOf, leavingOf, movedOf}
 use Rattle.steps.specs.Step.{mainWishAt, queuedAt, mainFlowAt, replaced, stepped, sumTo, arrivedOf, leftOf, storedOf}
 use Rattle.letters.specs.Level.{holdsAtMost, levelBy, levelOf}
-use Rattle.facility.specs.declared.Facility.{Facility}
+use Rattle.door.specs.declared.Facility.{Facility}
 use Rattle.facility.specs.Ledger.{Call, Take, Run, Report, Totals, Answer, Refused, Taken, Ran, Reported, Summed, arrivedIn, leftIn, partstepsIn, opened, answers}
 use Rattle.facility.proofs.Played.{Played}
 use Rattle.facility.proofs.Lists.{Accepted, roadOf, theorem}

@@ -10,9 +10,9 @@ use Rattle.conditions.specs.Conditions.{segments}
 use Rattle.steps.specs.Step.{replaced}
 use Rattle.steps.specs.Sums.{length-replaced}
 use Rattle.letters.specs.Level.{letterByte}
-use Rattle.facility.specs.declared.Facility.{Facility}
+use Rattle.door.specs.declared.Facility.{Facility}
 use Rattle.facility.specs.declared.SegmentReport.{SegmentReport}
-use Rattle.facility.specs.Sound.{sound}
+use Rattle.door.specs.Sound.{sound}
 use Rattle.facility.specs.Calls.{reportOf}
 use Rattle.facility.specs.Answers.{reportSays}
 use Rattle.facility.specs.Ledger.{Report, Book, answer}

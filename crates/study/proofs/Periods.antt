@@ -13,9 +13,9 @@ use Rattle.sheets.specs.Good.{good-road, read-road-allowed}
 use Rattle.sheets.specs.Read.{Rows, ReadRow, RefusedAt, readRoad, readPeriod, padded}
 use Rattle.sheets.specs.Refusals.{road-refusal}
 use Rattle.conditions.specs.Conditions.{segments}
-use Rattle.facility.specs.declared.Facility.{Facility}
+use Rattle.door.specs.declared.Facility.{Facility}
 use Rattle.facility.specs.declared.Reply.{Reply}
-use Rattle.facility.specs.Sound.{sound}
+use Rattle.door.specs.Sound.{sound}
 use Rattle.facility.specs.Calls.{laidBy, layOf, takeOf, runOf}
 use Rattle.facility.specs.Ledger.{Take, Run, Answer, Refused, Taken, Ran, Reported, Summed, withSteps, Book, opened, read, withRow, running, full, answer, after}
 use Rattle.facility.specs.View.{view}

@@ -1,7 +1,7 @@
 -- What a facility shows by its totals and its segment reports, as the listing has it.
 use Prim.Native.Nat.{ℕ, _+_}
 use Rattle.conditions.specs.Conditions.{segments}
-use Rattle.facility.specs.declared.Facility.{Facility}
+use Rattle.door.specs.declared.Facility.{Facility}
 use Rattle.facility.specs.Calls.{reportOf, totalsOf}
 use Rattle.facility.specs.Answers.{reportSays}
 use Rattle.study.specs.declared.Line.{Line}

@@ -1,5 +1,5 @@
 // A whole study: from the bytes of its file to everything the listing shows.
-use facility::Facility;
+use door::Facility;
 use letters::Level;
 ghost use mathlib.Core.Path.{_≡_};
 ghost use mathlib.Core.Bool.{true};
@@ -8,7 +8,7 @@ ghost use mathlib.Core.List.{_++_};
 ghost use lib.ListN.{length, take, drop, set};
 ghost use Rattle.conditions.specs.Conditions.{segments};
 ghost use Rattle.letters.specs.Level.{letterByte};
-ghost use Rattle.facility.specs.Sound.{sound};
+ghost use Rattle.door.specs.Sound.{sound};
 ghost use Rattle.study.specs.Forecast.{linesBy, refusedAt, forecastOf};
 ghost use Rattle.study.specs.Export.{lineNumbers, numbersOf, exportAnswer, exportInto};
 ghost use Rattle.study.specs.Shown.{lineAt, shown};

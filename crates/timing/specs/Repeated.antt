@@ -1,7 +1,7 @@
 -- Calls made over and over: what the timed functions come to.
 use Prim.Native.Nat.{ℕ, zero, suc}
 use mathlib.Core.List.{List}
-use Rattle.facility.specs.declared.Facility.{Facility}
+use Rattle.door.specs.declared.Facility.{Facility}
 use Rattle.facility.specs.Calls.{layOf, takeOf, runOf}
 
 -- a road laid and a sheet taken

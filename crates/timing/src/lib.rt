@@ -1,6 +1,6 @@
 // Calls made over and over, exported so that one call can be timed.
 use arithmetic::wide;
-use facility::Facility;
+use door::Facility;
 ghost use mathlib.Core.Path.{_≡_};
 ghost use Prim.Native.Nat.{_+_, _%_};
 ghost use Rattle.steps.specs.Step.{sumTo};

@@ -2,7 +2,7 @@
 use Prim.Native.Nat.{_+_, _-_, _*_, _%_, _≤_}
 use mathlib.Core.Path.{_≡_, refl, ap, _∙_}
 use native.Mathlib.Omega.{arith}
-use Rattle.facility.specs.declared.Facility.{Facility}
+use Rattle.door.specs.declared.Facility.{Facility}
 use Rattle.facility.specs.declared.Reply.{Reply}
 use Rattle.steps.specs.Step.{sumTo}
 use Rattle.steps.specs.Sums.{sum-more}
