@@ -18,7 +18,10 @@ least-requires c κs = tt
 
 returns : tie.Need-returns
 unfolding inForce
-returns c = cc
+returns c =
+    let c3 = c .before in
+    let c2 = c3 .before in
+    rw (c .least .ensures, c3 .parts-at2 .ensures, c2 .parts-at .ensures, c2 .before .lowered-by .ensures)
 
 pub in-force-spec : {M : Type 1} → statement M
 in-force-spec =

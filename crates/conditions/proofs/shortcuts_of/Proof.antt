@@ -12,7 +12,7 @@ easy-below-requires c κs = c .before .pre .jam
 
 returns : tie.Need-returns
 unfolding shortcutsOf
-returns c = cc
+returns c = rw (c .easy-below .ensures)
 
 pub shortcuts-of-spec : {M : Type 1} → statement M
 shortcuts-of-spec = tie.close (tie.spec mul-t2 easy-below-requires returns)

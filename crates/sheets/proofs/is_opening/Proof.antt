@@ -24,7 +24,10 @@ is-within-requires-3 c κs = omega arith
 
 returns : tie.Need-returns
 unfolding all-below
-returns c = cc
+returns c =
+    let c2 = c .before .before in
+    let c1 = c2 .before .before in
+    rw (c1 .is-within .ensures, c1 .before .period-range .ensures, c2 .is-within2 .ensures, c2 .before .period-range2 .ensures, c .is-within3 .ensures, c .before .period-range3 .ensures)
 
 pub is-opening-spec : {M : Type 1} → statement M
 is-opening-spec =

@@ -29,7 +29,9 @@ is-within-requires-2 c κs = omega arith
 
 returns : tie.Need-returns
 unfolding all-below
-returns c = cc (add-zero (3 + 2 * c .before .before .before .before .args .i))
+returns c =
+    let c1 = c .before .before in
+    rw (c1 .is-within .ensures, c1 .before .ramp-range .ensures, c .is-within2 .ensures, c .before .ramp-range2 .ensures, add-zero (3 + 2 * c1 .before .before .args .i))
 
 pub is-ramp-spec : {M : Type 1} → statement M
 is-ramp-spec =

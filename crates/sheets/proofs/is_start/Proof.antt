@@ -30,7 +30,11 @@ is-within-requires-4 c κs = omega arith
 
 returns : tie.Need-returns
 unfolding all-below
-returns c = cc
+returns c =
+    let c3 = c .before .before in
+    let c2 = c3 .before .before in
+    let c1 = c2 .before .before in
+    rw (c1 .is-within .ensures, c1 .before .road-start .ensures, c2 .is-within2 .ensures, c2 .before .road-start2 .ensures, c3 .is-within3 .ensures, c3 .before .road-start3 .ensures, c .is-within4 .ensures, c .before .road-start4 .ensures)
 
 pub is-start-spec : {M : Type 1} → statement M
 is-start-spec =

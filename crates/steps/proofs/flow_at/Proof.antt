@@ -31,7 +31,7 @@ merged-requires c κs =
 
 returns : tie.Need-returns
 unfolding inflowOf rampWishOf
-returns c = rw (← c .before .before .before .before .in-force-at .ensures) (cc)
+returns c = rw (← c .before .before .before .before .in-force-at .ensures, c .merged .ensures, c .before .supply-in .ensures, c .before .before .ramp-wish .ensures)
 
 pub flow-at-spec : {M : Type 1} → statement M
 flow-at-spec = tie.close (tie.spec in-force-at-requires shortcuts-at-requires ramp-wish-requires supply-in-requires merged-requires returns)

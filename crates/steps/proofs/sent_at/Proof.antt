@@ -44,7 +44,10 @@ through-of-requires c κs =
 
 returns : tie.Need-returns
 unfolding sentOf onwardOf queuedOf mostOf wishOf
-returns c = let w = wish-is (c .before .before .before .before) in rw (← c .before .before .before .before .before .before .before .in-force-at .ensures) (cc)
+returns c =
+    let most = c .before .before .before in
+    let split = most .before .before in
+    rw (← split .before .before .in-force-at .ensures, c .before .before .through-of .ensures, most .most-leaving .ensures, wish-is (most .before), split .split-of .ensures)
 
 pub sent-at-spec : {M : Type 1} → statement M
 sent-at-spec = tie.close (tie.spec in-force-at-requires shortcuts-at-requires split-of-requires wish-to-leave-requires most-leaving-requires through-of-requires returns)

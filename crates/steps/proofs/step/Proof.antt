@@ -155,7 +155,9 @@ add-left c =
     omega (arith, left-off at, moved-off _ _ _ _ _ (p .0 .place _ (below at .0)) (p .3 .cells _ (below at .0)) (moving (c .before)))
 
 put-cell-requires : tie.Need-put-cell-requires Inv-loop μ-loop
-put-cell-requires c κs = omega (arith, next-below (c .before .before .before .before .before .before .before .before .before .before .before) .1)
+put-cell-requires c κs =
+    let at = c .before .before .before .before .before .before .before .before .before .before .before .before in
+    omega (arith, c .before .before .before .before .before .before .before .before .before .before .before .loop-test .taken, passing at .last-one, entry at .pre .0 .segments .1)
 
 add-i : tie.Need-add-i Inv-loop μ-loop
 add-i c = omega (arith, below (c .before .before .before .before .before .before .before .before .before .before .before .before .before) .1)

@@ -21,7 +21,7 @@ supply-of-requires c κs = let p = c .before .before .before .pre .0 in (rw (c .
 
 returns-2 : tie.Need-returns-2
 unfolding supplyOf entranceOf
-returns-2 c = cc
+returns-2 c = rw (c .supply-of .ensures, c .before .before .before .entrance-of .ensures)
 
 pub supply-in-spec : {M : Type 1} → statement M
 supply-in-spec = tie.close (tie.spec entrance-of-requires returns supply-of-requires returns-2)
