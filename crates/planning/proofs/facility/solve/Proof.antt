@@ -68,11 +68,11 @@ loop-again c =
     let o = answerAt (args .n) (args .row) (args .t3) (at .loop .i) in
     let same : c .before .before .section-at .result ≡ s = c .before .before .section-at .ensures in
     let told-is : outcome (c .before .answer .result) ≡ o = c .before .answer .ensures ∙ ap (λ (x : Section). answerOf x (getD (args .t3) (at .loop .i) 0)) same in
-    let next : c .added .result ≡ addedOf (at .loop .totals) s o = cc in (
+    let next : c .added .result ≡ addedOf (at .loop .totals) s o = c .added .ensures ∙ rw (same, told-is) in (
       omega arith,
       simp length-set (at .loop .inv .1),
       map-set told (at .loop .answers) (at .loop .i) _ ∙ stored _ _ _ _ _ (omega arith) (at .loop .inv .2) told-is,
-      cc (totals-more (args .n) (args .row) (args .t3) (at .loop .i)),
+      rw (totals-more (args .n) (args .row) (args .t3) (at .loop .i), ← at .loop .inv .3) next,
       omega (arith, ap (λ (t : Totals). t .area) next, area-more (at .loop .totals) s o, area s (c .before .before .before .before .before .pre .1 _ (c .before .before .before .loop-test .taken))),
     )
 

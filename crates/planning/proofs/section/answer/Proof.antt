@@ -18,7 +18,10 @@ judged-requires c κs = search needs
 
 returns : tie.Need-returns
 unfolding answerOf
-returns c = cc
+returns c =
+    let worked = c .before in
+    let capacity = worked .before in
+    rw (worked .worked .ensures, capacity .capacity .ensures, capacity .before .row-of .ensures) at (c .judged .ensures)
 
 pub answer-spec : {M : Type 1} → statement M
 answer-spec =

@@ -24,7 +24,10 @@ density-requires c κs = search needs
 
 returns : tie.Need-returns
 unfolding workOf
-returns c = cc
+returns c =
+    let over = c .before .before .before in
+    let under = over .before in
+    rw (c .density .ensures, c .before .speed .ensures, c .before .before .travel .ensures, over .over .ensures, under .under .ensures, under .before .ratio .ensures)
 
 pub worked-spec : {M : Type 1} → statement M
 worked-spec =
