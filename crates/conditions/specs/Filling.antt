@@ -24,7 +24,7 @@ pub record Filling (road period : List ℕ) (g : RoadGlobals) (ns : ℕ) (row : 
   pub within : i ≤ ns
   pub all : ns ≡ segments road
   pub globals-are : g ≡ roadGlobals road
-  pub long : length row ≡ 771
+  pub long : length row ≡ 835
   pub first : getD row 0 0 ≡ segments road
   pub second : getD row 1 0 ≡ periodGlobals period .demand
   pub third : getD row 2 0 ≡ periodGlobals period .exit
@@ -34,14 +34,14 @@ pub record Filling (road period : List ℕ) (g : RoadGlobals) (ns : ℕ) (row : 
 pub filling-start : (road period : List ℕ) (g : RoadGlobals) (ns a b d : ℕ) (row : List ℕ) →
     g ≡ roadGlobals road →
     ns ≡ g .segments →
-    length row ≡ 771 →
+    length row ≡ 835 →
     a ≡ segments road →
     b ≡ periodGlobals period .demand →
     d ≡ periodGlobals period .exit →
     Filling road period g ns (set (set (set row 0 a) 1 b) 2 d) 0
 filling-start road period g ns a b d row e n l p q r =
-    let l1 : length (set row 0 a) ≡ 771 = length-set row 0 a ∙ l in
-    let l2 : length (set (set row 0 a) 1 b) ≡ 771 = length-set (set row 0 a) 1 b ∙ l1 in
+    let l1 : length (set row 0 a) ≡ 835 = length-set row 0 a ∙ l in
+    let l2 : length (set (set row 0 a) 1 b) ≡ 835 = length-set (set row 0 a) 1 b ∙ l1 in
     record {
       within = omega arith;
       all = rw (n, e);
@@ -66,7 +66,7 @@ module _ (road period : List ℕ) (g : RoadGlobals) (ns i : ℕ) (row : List ℕ
         let l : i < segments road = omega (arith, at .all) in
         (omega (arith, at .all, good .segments .1), rw is-in-force (good-place _ _ _ (good-globals road good) (good .segment i l) (sheet .ramp i l .0)))
 
-    room : startOf i + 11 < length row
+    room : startOf i + 12 < length row
     room = omega (arith, at .long, filling-fits .0)
 
     -- what holds of the segment just put and of those before it holds of all

@@ -16,7 +16,7 @@ use Rattle.conditions.specs.Conditions.{partsAt, loweredBy, inForce, She
 -- at a segment; 2,880,000 = 300 × 8 × 26,400 / 22 is the largest J
 pub record GoodPlace (here : InForce) : Type 0 where
   pub length : (1 ≤ here .length) × (here .length ≤ 26400)
-  pub speed : here .speed ≤ 85
+  pub speed : (1 ≤ here .speed) × (here .speed ≤ 85)
   pub lanes : (1 ≤ here .lanes) × (here .lanes ≤ 8)
   pub capacity : here .capacity ≤ 20000
   pub lowered : here .lowered ≤ here .capacity
@@ -75,7 +75,7 @@ pub good-place : (g : RoadGlobals) (seg : Segment) (ramp : Ramp) → GoodGlobals
 unfolding inForce
 good-place g seg ramp a b d = record {
   length = (omega (arith, b .length .0), b .length .1);
-  speed = b .speed .1;
+  speed = (omega (arith, b .speed .0), b .speed .1);
   lanes = b .lanes;
   capacity = b .capacity .1;
   lowered = lowered-most _ _;

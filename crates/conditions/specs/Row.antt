@@ -1,4 +1,4 @@
--- Conditions as a row of numbers: NS, mainline demand, X, then twelve numbers a segment; 771 = 3 + 12 × 64 in all.
+-- Conditions as a row of numbers: NS, mainline demand, X, then thirteen numbers a segment; 835 = 3 + 13 × 64 in all.
 use Prim.Native.Nat.{ℕ, _+_, _*_, _/_, _<_}
 use mathlib.Core.Path.{_≡_}
 use mathlib.Core.List.{List, [], _∷_}
@@ -13,7 +13,7 @@ use Rattle.conditions.specs.Puts.{puts, puts-length, puts-before, puts-a
 
 -- where the numbers of segment i begin
 abbrev pub startOf : ℕ → ℕ
-startOf i = 3 + 12 * i
+startOf i = 3 + 13 * i
 
 -- what is in force at segment i; V stands there as 22 × V
 unfoldable pub inForceIn : List ℕ → ℕ → InForce
@@ -33,7 +33,7 @@ inForceIn row i = record {
 
 -- and its shortcuts
 unfoldable pub shortcutsIn : List ℕ → ℕ → Shortcuts
-shortcutsIn row i = record { reach = getD row (startOf i + 1) 0; easy = getD row (startOf i + 11) 0 }
+shortcutsIn row i = record { reach = getD row (startOf i + 1) 0; easy = getD row (startOf i + 11) 0; full = getD row (startOf i + 12) 0 }
 
 -- the conditions that a row tells
 unfoldable pub conditionsIn : List ℕ → Conditions
@@ -56,7 +56,7 @@ HasShortcuts row = (i : ℕ) → i < conditionsIn row .segments → shortcutsIn 
 -- the numbers of a segment, in the row's order
 abbrev pub numbersOf : InForce → List ℕ
 numbersOf p =
-    p .length ∷ shortcutsOf p .reach ∷ p .lanes ∷ p .capacity ∷ p .lowered ∷ p .jam ∷ p .critical ∷ p .limit ∷ p .share ∷ p .offramp ∷ p .demand ∷ shortcutsOf p .easy ∷ []
+    p .length ∷ shortcutsOf p .reach ∷ p .lanes ∷ p .capacity ∷ p .lowered ∷ p .jam ∷ p .critical ∷ p .limit ∷ p .share ∷ p .offramp ∷ p .demand ∷ shortcutsOf p .easy ∷ shortcutsOf p .full ∷ []
 
 -- the row with what is in force at segment i put
 unfoldable pub withInForce : List ℕ → ℕ → InForce → List ℕ
@@ -64,8 +64,8 @@ withInForce row i p = puts row (startOf i) 0 (numbersOf p)
 
 -- ---- what is put is what is read there, and the rest stays
 module _ (row : List ℕ) (i : ℕ) (p : InForce) where
-  module _ (h : startOf i + 11 < length row) where
-    put-at : (m : ℕ) → m < 12 → getD (puts row (startOf i) 0 (numbersOf p)) (startOf i + (0 + m)) 0 ≡ getD (numbersOf p) m 0
+  module _ (h : startOf i + 12 < length row) where
+    put-at : (m : ℕ) → m < 13 → getD (puts row (startOf i) 0 (numbersOf p)) (startOf i + (0 + m)) 0 ≡ getD (numbersOf p) m 0
     put-at m s = puts-at row (startOf i) 0 m (numbersOf p) s (omega arith)
 
     speed-back : shortcutsOf p .reach / 22 ≡ p .speed
@@ -79,7 +79,7 @@ module _ (row : List ℕ) (i : ℕ) (p : InForce) where
 
     pub with-shortcuts-at : shortcutsIn (withInForce row i p) i ≡ shortcutsOf p
     unfolding shortcutsIn withInForce
-    with-shortcuts-at = rw (put-at 1 (omega arith), put-at 11 (omega arith))
+    with-shortcuts-at = rw (put-at 1 (omega arith), put-at 11 (omega arith), put-at 12 (omega arith))
 
   pub with-in-force-length : length (withInForce row i p) ≡ length row
   unfolding withInForce
@@ -91,7 +91,7 @@ module _ (row : List ℕ) (i : ℕ) (p : InForce) where
 
   -- what was put at a segment before stays
   module _ (j : ℕ) (h : j < i) where
-    stays-at : (m : ℕ) → m < 12 → getD (withInForce row i p) (startOf j + m) 0 ≡ getD row (startOf j + m) 0
+    stays-at : (m : ℕ) → m < 13 → getD (withInForce row i p) (startOf j + m) 0 ≡ getD row (startOf j + m) 0
     stays-at m s = with-in-force-before (startOf j + m) (omega arith)
 
     pub with-in-force-earlier : inForceIn (withInForce row i p) j ≡ inForceIn row j
@@ -101,4 +101,4 @@ module _ (row : List ℕ) (i : ℕ) (p : InForce) where
 
     pub with-shortcuts-earlier : shortcutsIn (withInForce row i p) j ≡ shortcutsIn row j
     unfolding shortcutsIn
-    with-shortcuts-earlier = rw (stays-at 1 (omega arith), stays-at 11 (omega arith))
+    with-shortcuts-earlier = rw (stays-at 1 (omega arith), stays-at 11 (omega arith), stays-at 12 (omega arith))

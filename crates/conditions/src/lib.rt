@@ -8,7 +8,7 @@ ghost use Prim.Native.Nat.{_≤_, _<_};
 ghost use lib.ListN.{length};
 ghost use Rattle.sheets.specs.Good.{GoodSegment, GoodRoad, GoodPeriod};
 ghost use Rattle.conditions.specs.Conditions.{partsAt, loweredBy, inForce, Under, conditionsOf, inForceAt};
-ghost use Rattle.conditions.specs.Shortcuts.{easyBelow, shortcutsOf};
+ghost use Rattle.conditions.specs.Shortcuts.{easyBelow, fullFrom, shortcutsOf};
 ghost use Rattle.conditions.specs.Good.{GoodGlobals, GoodPlace};
 ghost use Rattle.conditions.specs.Row.{withInForce, conditionsIn, HasShortcuts};
 
@@ -28,10 +28,12 @@ pub struct InForce {
     pub demand: u32,
 }
 
-// Two numbers that spare a step some work: the reach 22 × V, and the number of parts below which P is E.
+// Three numbers that spare a step some work: the reach 22 × V, the number of parts below which P is E, and the one from which D is the
+// lesser of n and C.
 pub struct Shortcuts {
     pub reach: u32,
     pub easy: u32,
+    pub full: u32,
 }
 
 // J by the jam density, Q by the density at capacity.
@@ -81,23 +83,36 @@ fn easy_below(jam: u32, critical: u32, capacity: u32) -> u32
     least(critical, jam - capacity) + 1
 }
 
-// The two of what is in force at a segment.
+// With as many parts as this D is the lesser of n and C, with fewer it goes by the speed.
+fn full_from(length: u32, reach: u32, capacity: u32) -> u32
+    requires { ⌜ (length ≤ 26400) × (1 ≤ reach) × (reach ≤ 1870) × (capacity ≤ 20000) ⌝ }
+    ensures { λ r. ⌜ r ≡ fullFrom length reach capacity ⌝ }
+{
+    if length <= reach {
+        return 0;
+    }
+    (capacity * length + (reach - 1)) / reach
+}
+
+// The three of what is in force at a segment.
 fn shortcuts_of(here: InForce) -> Shortcuts
     requires { ⌜ GoodPlace here ⌝ }
     ensures { λ r. ⌜ r ≡ shortcutsOf here ⌝ }
 {
+    let reach = 22 * here.speed;
     Shortcuts {
-        reach: 22 * here.speed,
+        reach,
         easy: easy_below(here.jam, here.critical, here.capacity),
+        full: full_from(here.length, reach, here.capacity),
     }
 }
 
 // Puts what is in force at segment i into a row, and its shortcuts.
-fn put_in_force(row: &mut [u32; 771], i: usize, here: InForce)
+fn put_in_force(row: &mut [u32; 835], i: usize, here: InForce)
     requires { ⌜ (i < 64) × GoodPlace here ⌝ }
     ensures { λ _. ⌜ now (row .exit) ≡ withInForce (now (row .entry)) i here ⌝ }
 {
-    let at = 3 + 12 * i;
+    let at = 3 + 13 * i;
     let short = shortcuts_of(here);
     row[at] = here.length;
     row[at + 1] = short.reach;
@@ -111,12 +126,13 @@ fn put_in_force(row: &mut [u32; 771], i: usize, here: InForce)
     row[at + 9] = here.offramp;
     row[at + 10] = here.demand;
     row[at + 11] = short.easy;
+    row[at + 12] = short.full;
 }
 
-// A row has 771 numbers: NS, the mainline demand and X, then twelve for each of up to 64 segments.
-// Fills one with the conditions of a road under a period sheet.
-fn fill(road: &[u32; 452], period: &[u32; 452], row: &mut [u32; 771])
-    requires { ⌜ GoodRoad (now road) × GoodPeriod (now road) (now period) × (length (now row) ≡ 771) ⌝ }
+// A row has 835 numbers: NS, the mainline demand and X, then thirteen for each of up to 64 segments.
+// Works the conditions of a road under a period sheet out into one.
+pub fn work_out(road: &[u32; 452], period: &[u32; 452], row: &mut [u32; 835])
+    requires { ⌜ GoodRoad (now road) × GoodPeriod (now road) (now period) × (length (now row) ≡ 835) ⌝ }
     ensures { λ _. ⌜ (conditionsIn (now (row .exit)) ≡ conditionsOf (now (road .entry)) (Under (now (period .entry)))) × HasShortcuts (now (row .exit)) ⌝ }
 {
     let g = sheets::globals_of_road(road);
@@ -133,41 +149,31 @@ fn fill(road: &[u32; 452], period: &[u32; 452], row: &mut [u32; 771])
     }
 }
 
-// The conditions of a road under a period sheet, worked out into a row.
-pub fn work_out(road: &[u32; 452], period: &[u32; 452]) -> [u32; 771]
-    requires { ⌜ GoodRoad (now road) × GoodPeriod (now road) (now period) ⌝ }
-    ensures { λ r. ⌜ (conditionsIn r ≡ conditionsOf (now (road .entry)) (Under (now (period .entry)))) × HasShortcuts r ⌝ }
-{
-    let mut row = [0u32; 771];
-    fill(road, period, &mut row);
-    row
-}
-
 // NS, the mainline demand and X that a row tells.
-pub fn segments_in(row: &[u32; 771]) -> u32
+pub fn segments_in(row: &[u32; 835]) -> u32
     ensures { λ r. ⌜ r ≡ conditionsIn (now (row .entry)) .segments ⌝ }
 {
     row[0]
 }
 
-pub fn demand_in(row: &[u32; 771]) -> u32
+pub fn demand_in(row: &[u32; 835]) -> u32
     ensures { λ r. ⌜ r ≡ conditionsIn (now (row .entry)) .demand ⌝ }
 {
     row[1]
 }
 
-pub fn exit_in(row: &[u32; 771]) -> u32
+pub fn exit_in(row: &[u32; 835]) -> u32
     ensures { λ r. ⌜ r ≡ conditionsIn (now (row .entry)) .exit ⌝ }
 {
     row[2]
 }
 
 // What is in force at segment i.
-pub fn in_force_at(row: &[u32; 771], i: usize) -> InForce
+pub fn in_force_at(row: &[u32; 835], i: usize) -> InForce
     requires { ⌜ (i < 64) × (i < conditionsIn (now row) .segments) ⌝ }
     ensures { λ r. ⌜ r ≡ inForceAt (conditionsIn (now (row .entry))) i ⌝ }
 {
-    let at = 3 + 12 * i;
+    let at = 3 + 13 * i;
     InForce {
         length: row[at],
         speed: row[at + 1] / 22,
@@ -184,13 +190,14 @@ pub fn in_force_at(row: &[u32; 771], i: usize) -> InForce
 }
 
 // Its shortcuts.
-pub fn shortcuts_at(row: &[u32; 771], i: usize) -> Shortcuts
+pub fn shortcuts_at(row: &[u32; 835], i: usize) -> Shortcuts
     requires { ⌜ (i < 64) × (i < conditionsIn (now row) .segments) × HasShortcuts (now row) ⌝ }
     ensures { λ r. ⌜ r ≡ shortcutsOf (inForceAt (conditionsIn (now (row .entry))) i) ⌝ }
 {
-    let at = 3 + 12 * i;
+    let at = 3 + 13 * i;
     Shortcuts {
         reach: row[at + 1],
         easy: row[at + 11],
+        full: row[at + 12],
     }
 }

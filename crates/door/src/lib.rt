@@ -70,22 +70,47 @@ fn is_summed(t: u64, arrived: u64, left: u64, partsteps: u64) -> bool
     (arrived <= 660000 * t) & ((left <= 660000 * t) & (partsteps <= 3801600000 * t))
 }
 
-// Whether a laying and calls can have produced the facility; any other is the empty one.
+// Whether a laying and calls can have produced the facility with these fields; any other is the empty one. Its rows are lent.
+pub fn fields_are_sound<'a>(
+    road: &'a [u32; 452],
+    period: &'a [u32; 452],
+    taken: u32,
+    made: u32,
+    state: State,
+    arrived: u64,
+    left: u64,
+    partsteps: u64,
+) -> bool
+    ensures { λ r. ⌜ r ≡ sound (record { road = now (road .entry); period = now (period .entry); taken = taken; made = made; state = state; arrived = arrived; left = left; partsteps = partsteps }) ⌝ }
+{
+    if !sheets::is_road(road) {
+        return false;
+    }
+    if !is_counted(taken, made) {
+        return false;
+    }
+    if !is_sheeted(taken, road, period) {
+        return false;
+    }
+    let t = steps_by(taken, made);
+    if !is_held(road[0] as usize, t, state) {
+        return false;
+    }
+    is_summed(wide(t), arrived, left, partsteps)
+}
+
+// The same of a facility.
 pub fn is_sound(f: Facility) -> bool
     ensures { λ r. ⌜ r ≡ sound f ⌝ }
 {
-    if !sheets::is_road(&f.road) {
-        return false;
-    }
-    if !is_counted(f.taken, f.made) {
-        return false;
-    }
-    if !is_sheeted(f.taken, &f.road, &f.period) {
-        return false;
-    }
-    let t = steps_by(f.taken, f.made);
-    if !is_held(f.road[0] as usize, t, f.state) {
-        return false;
-    }
-    is_summed(wide(t), f.arrived, f.left, f.partsteps)
+    fields_are_sound(
+        &f.road,
+        &f.period,
+        f.taken,
+        f.made,
+        f.state,
+        f.arrived,
+        f.left,
+        f.partsteps,
+    )
 }

@@ -2,6 +2,7 @@
 use arithmetic::less_wide;
 use arithmetic::wide;
 use door::Facility;
+use door::fields_are_sound;
 use door::is_sound;
 use letters::Level;
 use numbers::Written;
@@ -129,8 +130,7 @@ fn take_sheet(f: Facility, bytes: &[u8]) -> Reply
     requires { ⌜ f .taken < 96 ⌝ }
     ensures { λ r. ⌜ r ≡ takenBy f (readPeriod (f .road) (now (bytes .entry))) ⌝ }
 {
-    let road = f.road;
-    let sheet = sheets::read_period(bytes, road);
+    let sheet = sheets::read_period(bytes, &f.road);
     let row = sheet.row;
     if sheet.refusal == 0 {
         let next = with_sheet(f, row);
@@ -173,9 +173,11 @@ fn make_steps(f: Facility, k: u32) -> Facility
     let road = f.road;
     let period = f.period;
     let state = f.state;
-    let row = conditions::work_out(&road, &period);
+    let mut row = [0u32; 835];
+    conditions::work_out(&road, &period, &mut row);
     let arrives = wide(steps::arrived(&row));
-    let mut cells = steps::cell_row(state);
+    let mut cells = [0u32; 384];
+    steps::put_cells(&mut cells, state);
     let mut ends = Ends {
         origin: state.origin,
         exit: state.exit,
@@ -209,7 +211,16 @@ fn make_steps(f: Facility, k: u32) -> Facility
 pub fn run(f: Facility, k: u32) -> Reply
     ensures { λ r. ⌜ r ≡ runOf f k ⌝ }
 {
-    if !is_sound(f) {
+    if !fields_are_sound(
+        &f.road,
+        &f.period,
+        f.taken,
+        f.made,
+        f.state,
+        f.arrived,
+        f.left,
+        f.partsteps,
+    ) {
         return refuse(f, 9);
     }
     if k < 1 {

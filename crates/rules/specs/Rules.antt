@@ -5,6 +5,7 @@ use mathlib.Core.Bool.{Bool}
 use lib.Dec.{leb}
 use Rattle.numbers.specs.Choice.{if_then_else_}
 use Rattle.rules.specs.declared.Split.{Split}
+use Rattle.rules.specs.declared.Flow.{Flow}
 
 -- the largest y up to b that passes the test, by search from the top
 unfoldable pub largest : (ℕ → Bool) → ℕ → ℕ
@@ -50,6 +51,10 @@ rampFlow p n m w = min w (max (p - m) (p / (2 * n)))
 -- f, mainline flow: the smaller of M and P − r; at the exit, the smaller of M and X (P is X there, and r is zero)
 unfoldable pub mainFlow : (mainWish supply rampFlow : ℕ) → ℕ
 mainFlow m p r = min m (p - r)
+
+-- f and r at the entrance of a segment
+abbrev pub merge : (supply lanes mainWish rampWish : ℕ) → Flow
+merge p n m w = let r = rampFlow p n m w in record { main = mainFlow m p r; ramp = r }
 
 -- y, leaving: the largest y up to Y0 with through(y) at most f(i + 1)
 unfoldable pub leaving : Split → (most ahead : ℕ) → ℕ

@@ -4,7 +4,8 @@ use arithmetic::less;
 use arithmetic::wide;
 ghost use mathlib.Core.Path.{_≡_};
 ghost use Prim.Native.Nat.{ℕ, _*_, _≤_, _<_};
-ghost use Rattle.rules.specs.Rules.{wishToLeave, off, through, mostLeaving, rampWish, entrance, supply, rampFlow, mainFlow, leaving};
+ghost use Rattle.conditions.specs.Shortcuts.{fullFrom};
+ghost use Rattle.rules.specs.Rules.{wishToLeave, off, through, mostLeaving, rampWish, supply, rampFlow, mainFlow, merge, leaving};
 ghost use Rattle.rules.specs.Split.{GoodSplit};
 
 // What the split of leaving parts goes by.
@@ -18,17 +19,15 @@ pub struct Flow {
     pub ramp: u32,
 }
 
-// D, by the reach 22 × V. The quotient is worked out only where it is the least.
-pub fn wish_to_leave(n: u32, capacity: u32, reach: u32, length: u32) -> u32
-    requires { ⌜ (n ≤ 2880000) × (capacity ≤ 20000) × (reach ≤ 1870) × (1 ≤ length) × (length ≤ 26400) ⌝ }
+// D, by the reach 22 × V. With as many parts as `full` the quotient is at least the lesser of n and C, and is not worked out.
+pub fn wish_to_leave(n: u32, capacity: u32, length: u32, reach: u32, full: u32) -> u32
+    requires { ⌜ (capacity ≤ 20000) × (1 ≤ length) × (length ≤ 26400) × (1 ≤ reach) × (full ≡ fullFrom length reach capacity) ⌝ }
     ensures { λ r. ⌜ ((speed : ℕ) → reach ≡ 22 * speed → r ≡ wishToLeave n capacity speed length) ⌝ }
 {
-    let moving = wide(n) * wide(reach);
-    let most = least(n, capacity);
-    if wide(most * length) <= moving {
-        return most;
+    if n < full {
+        return (n * reach + (length - 1)) / length;
     }
-    (moving as u32 + (length - 1)) / length
+    least(n, capacity)
 }
 
 // off(y), and what is left of y: through(y).
@@ -63,13 +62,6 @@ pub fn ramp_wish(queue: u32, demand: u32, limit: u32) -> u32
     ensures { λ r. ⌜ r ≡ rampWish queue demand limit ⌝ }
 {
     least(queue + demand, limit)
-}
-
-// E.
-pub fn entrance_of(capacity: u32, lowered: u32, queued: bool) -> u32
-    ensures { λ r. ⌜ r ≡ entrance capacity lowered queued ⌝ }
-{
-    if queued { lowered } else { capacity }
 }
 
 // P. Up to Q the quotient is at least C, and is not worked out.
@@ -109,14 +101,11 @@ fn main_flow(m: u32, p: u32, r: u32) -> u32
     least(m, less(p, r))
 }
 
-// f and r. Where the supply takes both wishes, they are the wishes.
+// f and r.
 pub fn merged(p: u32, lanes: u32, m: u32, w: u32) -> Flow
-    requires { ⌜ (1 ≤ lanes) × (lanes ≤ 8) × (m ≤ 115220000) × (w ≤ 10000) ⌝ }
-    ensures { λ r. ⌜ r ≡ record { main = mainFlow m p (rampFlow p lanes m w); ramp = rampFlow p lanes m w } ⌝ }
+    requires { ⌜ (1 ≤ lanes) × (lanes ≤ 8) ⌝ }
+    ensures { λ r. ⌜ r ≡ merge p lanes m w ⌝ }
 {
-    if m + w <= p {
-        return Flow { main: m, ramp: w };
-    }
     let ramp = ramp_flow(p, lanes, m, w);
     Flow {
         main: main_flow(m, p, ramp),

@@ -237,8 +237,8 @@ pub fn read_road(bytes: &[u8]) -> Sheet
 }
 
 // Reads a period sheet of a road.
-pub fn read_period(bytes: &[u8], road: [u32; 452]) -> Sheet
-    ensures { λ r. ⌜ r ≡ sheetOf (readPeriod road (now (bytes .entry))) ⌝ }
+pub fn read_period(bytes: &[u8], road: &[u32; 452]) -> Sheet
+    ensures { λ r. ⌜ r ≡ sheetOf (readPeriod (now (road .entry)) (now (bytes .entry))) ⌝ }
 {
     read_row(bytes, Layout::Period(road[0]))
 }

@@ -142,7 +142,7 @@ fn road_of(ns: u32) -> [u32; 452] {
 
 // The period of a road of so many segments; the place stands for NS.
 fn read_period(ns: u32, bytes: &[u8]) {
-    let sheet = sheets::read_period(bytes, road_of(ns));
+    let sheet = sheets::read_period(bytes, &road_of(ns));
     let row = sheet.row;
     say_sheet(
         sheet,
@@ -165,7 +165,7 @@ fn write_period(buffer: &mut [u8], place: usize, size: usize, bytes: &[u8]) {
         return;
     }
     let ns = byte(bytes, 0);
-    let sheet = sheets::read_period(bytes, road_of(ns as u32));
+    let sheet = sheets::read_period(bytes, &road_of(ns as u32));
     let row = sheet.row;
     let done = sheets::write_period(&mut buffer[0..size], place, row);
     say_written(done, &buffer[..], size);

@@ -7,7 +7,7 @@ use Rattle.rules.specs.declared.Split.{Split}
 use Rattle.steps.specs.declared.Cell.{Cell}
 use Rattle.rules.specs.declared.Flow.{Flow}
 use Rattle.steps.specs.declared.Sent.{Sent}
-use Rattle.rules.specs.Rules.{wishToLeave, off, through, mostLeaving, rampWish, entrance, supply, rampFlow, mainFlow, leaving}
+use Rattle.rules.specs.Rules.{wishToLeave, off, through, mostLeaving, rampWish, entrance, supply, merge, leaving}
 
 module _ (here : InForce) (cell : Cell) where
   -- what the split into off(y) and through(y) goes by: what is in force and the cell, of which today the share s alone
@@ -48,9 +48,7 @@ module _ (here : InForce) (cell : Cell) where
 
   -- f and r, of M and whether a queue stands before the node
   unfoldable pub inflowOf : (mainWish : ℕ) (queued : Bool) → Flow
-  inflowOf m queued =
-      let r = rampFlow (supplyOf queued) (here .lanes) m rampWishOf in
-      record { main = mainFlow m (supplyOf queued) r; ramp = r }
+  inflowOf m queued = merge (supplyOf queued) (here .lanes) m rampWishOf
 
   -- y, of the flow ahead
   unfoldable pub leavingOf : (ahead : ℕ) → ℕ

@@ -9,7 +9,6 @@ use conditions::segments_in;
 use conditions::shortcuts_at;
 use rules::Flow;
 use rules::Split;
-use rules::entrance_of;
 use rules::leaving_of;
 use rules::merged;
 use rules::most_leaving;
@@ -21,9 +20,9 @@ ghost use mathlib.Core.Path.{_≡_};
 ghost use Prim.Native.Nat.{_≤_, _<_};
 ghost use lib.ListN.{length};
 ghost use Rattle.conditions.specs.Conditions.{inForceAt};
-ghost use Rattle.conditions.specs.Shortcuts.{shortcutsOf};
-ghost use Rattle.conditions.specs.Good.{GoodPlace, GoodConditions};
+ghost use Rattle.conditions.specs.Good.{GoodConditions};
 ghost use Rattle.conditions.specs.Row.{conditionsIn, HasShortcuts};
+ghost use Rattle.rules.specs.Rules.{entrance, merge};
 ghost use Rattle.steps.specs.Place.{splitOf, sentOf, supplyOf, inflowOf, leavingOf, movedOf};
 ghost use Rattle.steps.specs.Step.{freshState, stepped, arrivedOf, leftOf, storedOf};
 ghost use Rattle.steps.specs.CellRow.{cellAt, withCell, cellsIn, stateIn};
@@ -74,39 +73,61 @@ fn split_of(here: InForce, cell: Cell) -> Split
     Split { share: here.share }
 }
 
-// P of a segment. With fewer parts than `easy` it is E.
-fn supply_in(here: InForce, easy: u32, cell: Cell, queued: bool) -> u32
-    requires { ⌜ GoodPlace here × (easy ≡ shortcutsOf here .easy) ⌝ }
-    ensures { λ r. ⌜ r ≡ supplyOf here cell queued ⌝ }
+// E of segment i.
+fn entrance_at(row: &[u32; 835], i: usize, queued: bool) -> u32
+    requires { ⌜ (i < 64) × (i < conditionsIn (now row) .segments) ⌝ }
+    ensures { λ r. ⌜ r ≡ entrance (inForceAt (conditionsIn (now (row .entry))) i .capacity) (inForceAt (conditionsIn (now (row .entry))) i .lowered) queued ⌝ }
 {
-    let entrance = entrance_of(here.capacity, here.lowered, queued);
-    if cell.n < easy {
+    if queued {
+        return in_force_at(row, i).lowered;
+    }
+    in_force_at(row, i).capacity
+}
+
+// P of segment i with its cell. With fewer parts than `easy` it is E.
+fn supply_at(row: &[u32; 835], i: usize, cell: Cell, queued: bool) -> u32
+    requires { ⌜ GoodConditions (conditionsIn (now row)) × HasShortcuts (now row) × (i < conditionsIn (now row) .segments) ⌝ }
+    ensures { λ r. ⌜ r ≡ supplyOf (inForceAt (conditionsIn (now (row .entry))) i) cell queued ⌝ }
+{
+    let entrance = entrance_at(row, i, queued);
+    if cell.n < shortcuts_at(row, i).easy {
         return entrance;
     }
+    let here = in_force_at(row, i);
     supply_of(entrance, here.capacity, here.jam, here.critical, cell.n)
 }
 
+// f and r at node i, by P and the two wishes. Where the supply takes both wishes, they are the wishes.
+fn merged_at(row: &[u32; 835], i: usize, p: u32, m: u32, w: u32) -> Flow
+    requires { ⌜ GoodConditions (conditionsIn (now row)) × (i < conditionsIn (now row) .segments) × (m ≤ 115220000) × (w ≤ 10000) ⌝ }
+    ensures { λ r. ⌜ r ≡ merge p (inForceAt (conditionsIn (now (row .entry))) i .lanes) m w ⌝ }
+{
+    if m + w <= p {
+        return Flow { main: m, ramp: w };
+    }
+    merged(p, in_force_at(row, i).lanes, m, w)
+}
+
 // f and r at node i, the entrance of segment i with its cell, by the mainline wish and whether a queue stands before the node.
-fn flow_at(row: &[u32; 771], i: usize, cell: Cell, wish: u32, queued: bool) -> Flow
+fn flow_at(row: &[u32; 835], i: usize, cell: Cell, wish: u32, queued: bool) -> Flow
     requires { ⌜ GoodConditions (conditionsIn (now row)) × HasShortcuts (now row) × (i < conditionsIn (now row) .segments) × Held 5760 cell × (wish ≤ 115220000) ⌝ }
     ensures { λ r. ⌜ r ≡ inflowOf (inForceAt (conditionsIn (now (row .entry))) i) cell wish queued ⌝ }
 {
     let here = in_force_at(row, i);
-    let short = shortcuts_at(row, i);
     let w = ramp_wish(cell.q, here.demand, here.limit);
-    let p = supply_in(here, short.easy, cell, queued);
-    merged(p, here.lanes, wish, w)
+    let p = supply_at(row, i, cell, queued);
+    merged_at(row, i, p, wish, w)
 }
 
 // What segment i with its cell sends on.
-fn sent_at(row: &[u32; 771], i: usize, cell: Cell) -> Sent
+fn sent_at(row: &[u32; 835], i: usize, cell: Cell) -> Sent
     requires { ⌜ GoodConditions (conditionsIn (now row)) × HasShortcuts (now row) × (i < conditionsIn (now row) .segments) × Held 5760 cell ⌝ }
     ensures { λ r. ⌜ r ≡ sentOf (inForceAt (conditionsIn (now (row .entry))) i) cell ⌝ }
 {
     let here = in_force_at(row, i);
     let short = shortcuts_at(row, i);
     let split = split_of(here, cell);
-    let wish = wish_to_leave(cell.n, here.capacity, short.reach, here.length);
+    let wish = wish_to_leave(cell.n, here.capacity, here.length, short.reach, short.full);
     let most = most_leaving(split, here.offramp, wish);
     Sent {
         most,
@@ -133,7 +154,7 @@ fn moved(here: InForce, cell: Cell, flow: Flow, sent: Sent, ahead: u32) -> Cell
 }
 
 // The cell of segment i after the step.
-fn moved_at(row: &[u32; 771], i: usize, cell: Cell, flow: Flow, sent: Sent, ahead: u32) -> Cell
+fn moved_at(row: &[u32; 835], i: usize, cell: Cell, flow: Flow, sent: Sent, ahead: u32) -> Cell
     requires { ⌜ (i < 64) × (i < conditionsIn (now row) .segments) × Movable (inForceAt (conditionsIn (now row)) i) cell flow sent ahead ⌝ }
     ensures { λ r. ⌜ r ≡ movedOf (inForceAt (conditionsIn (now (row .entry))) i) cell flow (leavingOf (inForceAt (conditionsIn (now (row .entry))) i) cell ahead) ⌝ }
 {
@@ -170,18 +191,17 @@ fn put_cell(cells: &mut [u32; 384], i: usize, cell: Cell)
     cells[at + 5] = cell.out;
 }
 
-// The cells of a state as a row.
-pub fn cell_row(state: State) -> [u32; 384]
-    ensures { λ r. ⌜ (cellsIn r ≡ state .cells) × (length r ≡ 384) ⌝ }
+// Puts all cells of a state.
+pub fn put_cells(cells: &mut [u32; 384], state: State)
+    requires { ⌜ length (now cells) ≡ 384 ⌝ }
+    ensures { λ _. ⌜ (cellsIn (now (cells .exit)) ≡ state .cells) × (length (now (cells .exit)) ≡ 384) ⌝ }
 {
-    let mut cells = [0u32; 384];
     let mut i: usize = 0;
     while i < 64 {
         let cell = state.cells[i];
-        put_cell(&mut cells, i, cell);
+        put_cell(cells, i, cell);
         i += 1;
     }
-    cells
 }
 
 // The state of a row of cells and the ends.
@@ -205,7 +225,7 @@ pub fn state_of(cells: &[u32; 384], ends: Ends) -> State
 
 // One step under the conditions in a row, in place: one pass over the segments, which carries the flow into the segment at hand and
 // puts each cell after it and the next have been read. The last segment, before the exit, comes after the loop.
-pub fn step(row: &[u32; 771], cells: &mut [u32; 384], ends: Ends) -> Stepped
+pub fn step(row: &[u32; 835], cells: &mut [u32; 384], ends: Ends) -> Stepped
     requires { ⌜ GoodConditions (conditionsIn (now row)) × HasShortcuts (now row) × (length (now cells) ≡ 384) × Bounded (conditionsIn (now row) .segments) 5760 (stateIn (now cells) ends) ⌝ }
     ensures { λ r. ⌜ (stateIn (now (cells .exit)) (r .ends) ≡ stepped (conditionsIn (now (row .entry))) (stateIn (now (cells .entry)) ends)) × (r .left ≡ leftOf (conditionsIn (now (row .entry)) .segments) (stepped (conditionsIn (now (row .entry))) (stateIn (now (cells .entry)) ends))) × (length (now (cells .exit)) ≡ 384) ⌝ }
 {
@@ -237,7 +257,7 @@ pub fn step(row: &[u32; 771], cells: &mut [u32; 384], ends: Ends) -> Stepped
 }
 
 // Arrived in a step: the mainline demand and all ramp demands.
-pub fn arrived(row: &[u32; 771]) -> u32
+pub fn arrived(row: &[u32; 835]) -> u32
     requires { ⌜ GoodConditions (conditionsIn (now row)) ⌝ }
     ensures { λ r. ⌜ r ≡ arrivedOf (conditionsIn (now (row .entry))) ⌝ }
 {

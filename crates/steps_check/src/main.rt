@@ -63,11 +63,12 @@ fn say_sums(t: u64, origin: u32, arrived: u64, left: u64, partsteps: u64) {
 }
 
 // Makes so many steps under the conditions in a row, and prints each.
-fn run(row: &[u32; 771], road: &[u32; 452], count: u64)
+fn run(row: &[u32; 835], road: &[u32; 452], count: u64)
     requires { ⌜ GoodConditions (conditionsIn (now row)) × HasShortcuts (now row) × (segments (now road) ≤ 64) × (count < 256) ⌝ }
 {
     let each = arithmetic::wide(steps::arrived(row));
-    let mut cells = steps::cell_row(steps::fresh());
+    let mut cells = [0u32; 384];
+    steps::put_cells(&mut cells, steps::fresh());
     let mut ends = Ends { origin: 0, exit: 0 };
     let mut arrived: u64 = 0;
     let mut left: u64 = 0;
@@ -90,7 +91,8 @@ fn run(row: &[u32; 771], road: &[u32; 452], count: u64)
 fn run_under(road: &[u32; 452], period: &[u32; 452], count: u64)
     requires { ⌜ GoodRoad (now road) × GoodPeriod (now road) (now period) × (count < 256) ⌝ }
 {
-    let row = conditions::work_out(road, period);
+    let mut row = [0u32; 835];
+    conditions::work_out(road, period, &mut row);
     run(&row, road, count);
 }
 
@@ -102,7 +104,7 @@ fn play(bytes: &[u8], count: u64)
     let road = sheet.row;
     let used = sheet.used;
     if used <= bytes.len() {
-        let next = sheets::read_period(&bytes[used..], road);
+        let next = sheets::read_period(&bytes[used..], &road);
         let period = next.row;
         if sheets::is_road(&road) {
             if sheets::is_period(&road, &period) {

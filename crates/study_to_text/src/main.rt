@@ -95,7 +95,7 @@ fn print_periods(bytes: &[u8], start: usize, road: [u32; 452]) -> bool {
         if bytes.len() <= at {
             return fine;
         }
-        let sheet = sheets::read_period(&bytes[at..], road);
+        let sheet = sheets::read_period(&bytes[at..], &road);
         if bytes.len() - at < sheet.used {
             return fine;
         }

@@ -1,4 +1,4 @@
--- The reach, and the number behind those in force.
+-- The reach, and the two numbers behind those in force.
 use native.Mathlib.Omega.{arith}
 use Rattle.conditions.specs.Row.{shortcutsIn, in-force-in}
 use Rattle.conditions.proofs.shortcuts_at.Statement.{statement}
@@ -28,9 +28,18 @@ mul-t10 c = omega (arith, c .before .pre .0)
 element-copy-out-t13 : tie.Need-element-copy-out-t13
 element-copy-out-t13 c = omega (arith, c .before .pre .0)
 
+add-t14 : tie.Need-add-t14
+add-t14 c = omega (arith, c .before .before .pre .0)
+
+mul-t15 : tie.Need-mul-t15
+mul-t15 c = omega (arith, c .before .before .pre .0)
+
+element-copy-out-t18 : tie.Need-element-copy-out-t18
+element-copy-out-t18 c = omega (arith, c .before .before .pre .0)
+
 returns : tie.Need-returns
 unfolding shortcutsIn
-returns c = let p = c .before .before .pre in rw (in-force-in _ _ (p .1), ← p .2 _ (p .1))
+returns c = let p = c .before .before .before .pre in rw (in-force-in _ _ (p .1), ← p .2 _ (p .1))
 
 pub shortcuts-at-spec : {M : Type 1} → statement M
-shortcuts-at-spec = tie.close (tie.spec mul-at add-at add-t4 mul-t5 element-copy-out-t8 add-t9 mul-t10 element-copy-out-t13 returns)
+shortcuts-at-spec = tie.close (tie.spec mul-at add-at add-t4 mul-t5 element-copy-out-t8 add-t9 mul-t10 element-copy-out-t13 add-t14 mul-t15 element-copy-out-t18 returns)

@@ -1,5 +1,5 @@
 -- The conditions once, then the steps in turn.
-use mathlib.Core.Path.{_≡_, _∙_}
+use mathlib.Core.Path.{_≡_, refl, _∙_}
 use native.Mathlib.Omega.{arith}
 use Prim.Native.Nat.{_-_}
 use lib.ListN.{length}
@@ -20,25 +20,26 @@ abbrev μ-loop : tie.MeasureT-loop
 
 -- where the loop begins, the function began
 abbrev entry : tie.At-loop Inv-loop μ-loop → tie.Start Inv-loop μ-loop
-entry at = at .before .before .before .before .before .before .before .before .before .before .before
+entry at = at .before .before .before .before .before .before .before .before .before .before .before .before .before
 
 work-out-requires : tie.Need-work-out-requires Inv-loop μ-loop
-work-out-requires c κs = let p = c .before .before .before .before .before .pre in (road-good _ _ p, sheet-good _ _ p)
+work-out-requires c κs = let p = c .before .before .before .before .before .before .pre in (road-good _ _ p, sheet-good _ _ p, refl)
 
 arrived-requires : tie.Need-arrived-requires Inv-loop μ-loop
-arrived-requires c κs = let p = c .before .before .before .before .before .before .before .pre in rw (filled _ _ p _ (c .before .work-out .ensures .0)) (force-good _ _ p)
+arrived-requires c κs = let p = c .before .before .before .before .before .before .before .before .pre in rw (filled _ _ p _ (c .before .work-out .ensures .0)) (force-good _ _ p)
 
 wide-requires : tie.Need-wide-requires Inv-loop μ-loop
 wide-requires c κs = tt
 
-cell-row-requires : tie.Need-cell-row-requires Inv-loop μ-loop
-cell-row-requires c κs = tt
+put-cells-requires : tie.Need-put-cells-requires Inv-loop μ-loop
+put-cells-requires c κs = refl
 
 loop-holds : tie.Need-loop-holds Inv-loop μ-loop
 loop-holds c =
-    let p = c .before .before .before .before .before .before .before .before .before .before .pre in
-    let e = filled _ _ p _ (c .before .before .before .before .work-out .ensures .0) in
-    (turn-start _ _ p _ (rw (c .cell-row .ensures .0)), c .before .wide .ensures .0 ∙ rw e at (c .before .before .arrived .ensures), e, c .before .before .before .before .work-out .ensures .1, c .cell-row .ensures .1)
+    let p = c .before .before .before .before .before .before .before .before .before .before .before .before .pre in
+    let out = c .before .before .before .before .before .work-out .ensures in
+    let e = filled _ _ p _ (out .0) in
+    (turn-start _ _ p _ (rw (c .put-cells .ensures .0)), c .before .before .wide .ensures .0 ∙ rw e at (c .before .before .before .arrived .ensures), e, out .1, c .put-cells .ensures .1)
 
 step-requires : tie.Need-step-requires Inv-loop μ-loop
 step-requires c κs =
@@ -87,11 +88,11 @@ loop-again c =
 state-of-requires : tie.Need-state-of-requires Inv-loop μ-loop
 state-of-requires c κs = tt
 
-add-t19 : tie.Need-add-t19 Inv-loop μ-loop
-add-t19 c = omega (arith, entry (c .before .before .before .before) .pre .room)
+add-t20 : tie.Need-add-t20 Inv-loop μ-loop
+add-t20 c = omega (arith, entry (c .before .before .before .before) .pre .room)
 
 returns : tie.Need-returns Inv-loop μ-loop
 returns c = let at = c .before .before .before .before in rw (c .before .state-of .ensures) (turn-end _ _ (entry at .pre) _ _ _ _ _ (at .loop .inv .0) (c .before .before .before .loop-test .left))
 
 pub make-steps-spec : {M : Type 1} → statement M
-make-steps-spec = tie.close (tie.spec Inv-loop μ-loop work-out-requires arrived-requires wide-requires cell-row-requires loop-holds step-requires add-arrived wide-requires-2 add-left less-wide-requires add-partsteps add-i loop-less loop-again state-of-requires add-t19 returns)
+make-steps-spec = tie.close (tie.spec Inv-loop μ-loop work-out-requires arrived-requires wide-requires put-cells-requires loop-holds step-requires add-arrived wide-requires-2 add-left less-wide-requires add-partsteps add-i loop-less loop-again state-of-requires add-t20 returns)

@@ -27,7 +27,7 @@ is-period-requires : tie.Need-is-period-requires
 is-period-requires c κs = search needs
 
 run-under-requires : tie.Need-run-under-requires
-run-under-requires c κs = let g = good-road _ (sym (c .before .before .before .before .before .before .before .is-road .ensures) ∙ c .before .before .before .before .before .before .if2 .taken) in (g, good-period _ _ g (sym (c .before .before .before .is-period .ensures) ∙ c .before .before .if3 .taken), c .before .before .before .before .before .before .before .before .before .before .before .before .before .before .before .before .pre)
+run-under-requires c κs = let g = good-road _ (sym (c .before .before .before .before .before .before .before .is-road .ensures) ∙ c .before .before .before .before .before .before .if2 .taken) in (g, good-period _ _ g (sym (c .before .before .before .is-period .ensures) ∙ c .before .before .if3 .taken), c .before .before .before .before .before .before .before .before .before .before .before .before .before .before .before .before .before .pre)
 
 returns : tie.Need-returns
 returns c = search needs

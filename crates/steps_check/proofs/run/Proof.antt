@@ -1,6 +1,6 @@
 -- The steps in turn: the state stays bounded by the steps made, and the sums by their number.
 use Prim.Native.Nat.{_≤_, _-_, _*_}
-use mathlib.Core.Path.{_≡_, ap, _∙_}
+use mathlib.Core.Path.{_≡_, refl, ap, _∙_}
 use native.Mathlib.Omega.{arith}
 use borrow.Author.Needs.{needs}
 use lib.ListN.{length}
@@ -20,7 +20,7 @@ abbrev μ-loop : tie.MeasureT-loop
 μ-loop row road count each cells₀ ends₀ arrived₀ left₀ partsteps₀ t₀ cells ends arrived left partsteps t = count - t
 
 left-in : (c : tie.After-wide2 Inv-loop μ-loop) → c .wide2 .result ≤ 660000
-left-in c = omega (arith, c .wide2 .ensures .0, c .before .before .step .ensures .1, left-most _ _ (c .before .before .before .before .before .before .before .before .before .before .pre .0) (c .before .before .before .before .before .loop .inv .1))
+left-in c = omega (arith, c .wide2 .ensures .0, c .before .before .step .ensures .1, left-most _ _ (c .before .before .before .before .before .before .before .before .before .before .before .pre .0) (c .before .before .before .before .before .loop .inv .1))
 
 arrived-requires : tie.Need-arrived-requires Inv-loop μ-loop
 arrived-requires c κs = c .pre .0
@@ -31,37 +31,37 @@ wide-requires c κs = tt
 fresh-requires : tie.Need-fresh-requires Inv-loop μ-loop
 fresh-requires c κs = tt
 
-cell-row-requires : tie.Need-cell-row-requires Inv-loop μ-loop
-cell-row-requires c κs = tt
+put-cells-requires : tie.Need-put-cells-requires Inv-loop μ-loop
+put-cells-requires c κs = refl
 
 loop-holds : tie.Need-loop-holds Inv-loop μ-loop
 loop-holds c =
-    let e = c .cell-row .ensures .0 ∙ ap (λ (s : State). s .cells) (c .before .fresh .ensures) in
-    (omega arith, rw e (bounded-fresh _), omega arith, omega arith, omega arith, omega (arith, c .before .before .wide .ensures .0, c .before .before .before .arrived .ensures, arrived-most _ (c .before .before .before .before .pre .0)), c .cell-row .ensures .1)
+    let e = c .put-cells .ensures .0 ∙ ap (λ (s : State). s .cells) (c .before .fresh .ensures) in
+    (omega arith, rw e (bounded-fresh _), omega arith, omega arith, omega arith, omega (arith, c .before .before .before .wide .ensures .0, c .before .before .before .before .arrived .ensures, arrived-most _ (c .before .before .before .before .before .pre .0)), c .put-cells .ensures .1)
 
 step-requires : tie.Need-step-requires Inv-loop μ-loop
 step-requires c κs =
     let v = c .before .before .loop .inv in
-    let p = c .before .before .before .before .before .before .before .pre in
+    let p = c .before .before .before .before .before .before .before .before .pre in
     (p .0, p .1, v .6, bounded-longer _ (c .before .before .loop .t) _ _ (omega (arith, v .0, p .3)) (v .1))
 
 add-arrived : tie.Need-add-arrived Inv-loop μ-loop
-add-arrived c = omega (arith, c .before .before .before .before .loop .inv .0, c .before .before .before .before .loop .inv .2, c .before .before .before .before .loop .inv .5, c .before .before .before .before .before .before .before .before .before .pre .3)
+add-arrived c = omega (arith, c .before .before .before .before .loop .inv .0, c .before .before .before .before .loop .inv .2, c .before .before .before .before .loop .inv .5, c .before .before .before .before .before .before .before .before .before .before .pre .3)
 
 wide-requires-2 : tie.Need-wide-requires-2 Inv-loop μ-loop
 wide-requires-2 c κs = tt
 
 add-left : tie.Need-add-left Inv-loop μ-loop
-add-left c = omega (arith, left-in c, c .before .before .before .before .before .loop .inv .0, c .before .before .before .before .before .loop .inv .3, c .before .before .before .before .before .before .before .before .before .before .pre .3)
+add-left c = omega (arith, left-in c, c .before .before .before .before .before .loop .inv .0, c .before .before .before .before .before .loop .inv .3, c .before .before .before .before .before .before .before .before .before .before .before .pre .3)
 
 less-wide-requires : tie.Need-less-wide-requires Inv-loop μ-loop
 less-wide-requires c κs = tt
 
 add-partsteps : tie.Need-add-partsteps Inv-loop μ-loop
-add-partsteps c = omega (arith, c .less-wide .ensures, c .before .before .before .before .before .before .loop .inv .0, c .before .before .before .before .before .before .loop .inv .2, c .before .before .before .before .before .before .loop .inv .4, c .before .before .before .before .before .before .loop .inv .5, c .before .before .before .before .before .before .before .before .before .before .before .pre .3)
+add-partsteps c = omega (arith, c .less-wide .ensures, c .before .before .before .before .before .before .loop .inv .0, c .before .before .before .before .before .before .loop .inv .2, c .before .before .before .before .before .before .loop .inv .4, c .before .before .before .before .before .before .loop .inv .5, c .before .before .before .before .before .before .before .before .before .before .before .before .pre .3)
 
 add-t : tie.Need-add-t Inv-loop μ-loop
-add-t c = omega (arith, c .before .before .before .before .before .before .loop .inv .0, c .before .before .before .before .before .before .before .before .before .before .before .pre .3)
+add-t c = omega (arith, c .before .before .before .before .before .before .loop .inv .0, c .before .before .before .before .before .before .before .before .before .before .before .before .pre .3)
 
 state-of-requires : tie.Need-state-of-requires Inv-loop μ-loop
 state-of-requires c κs = tt
@@ -70,14 +70,14 @@ say-sums-requires : tie.Need-say-sums-requires Inv-loop μ-loop
 say-sums-requires c κs = search needs
 
 say-cells-requires : tie.Need-say-cells-requires Inv-loop μ-loop
-say-cells-requires c κs = c .before .before .before .before .before .before .before .before .before .before .before .before .before .before .pre .2
+say-cells-requires c κs = c .before .before .before .before .before .before .before .before .before .before .before .before .before .before .before .pre .2
 
 loop-less : tie.Need-loop-less Inv-loop μ-loop
 loop-less c = omega (arith, c .before .before .before .before .before .before .before .before .before .before .loop .inv .0, c .before .before .before .before .before .before .before .before .before .loop-test .taken)
 
 loop-again : tie.Need-loop-again Inv-loop μ-loop
 loop-again c =
-    let p = c .before .before .before .before .before .before .before .before .before .before .before .before .before .before .before .pre in
+    let p = c .before .before .before .before .before .before .before .before .before .before .before .before .before .before .before .before .pre in
     let v = c .before .before .before .before .before .before .before .before .before .before .loop .inv in
     let made = c .before .before .before .before .before .before .before .step .ensures in
     let l = left-in (c .before .before .before .before .before) in (
@@ -94,4 +94,4 @@ returns : tie.Need-returns Inv-loop μ-loop
 returns c = search needs
 
 pub run-spec : {M : Type 1} → statement M
-run-spec = tie.close (tie.spec Inv-loop μ-loop arrived-requires wide-requires fresh-requires cell-row-requires loop-holds step-requires add-arrived wide-requires-2 add-left less-wide-requires add-partsteps add-t state-of-requires say-sums-requires say-cells-requires loop-less loop-again returns)
+run-spec = tie.close (tie.spec Inv-loop μ-loop arrived-requires wide-requires fresh-requires put-cells-requires loop-holds step-requires add-arrived wide-requires-2 add-left less-wide-requires add-partsteps add-t state-of-requires say-sums-requires say-cells-requires loop-less loop-again returns)

@@ -6,8 +6,8 @@ use Rattle.sheets.specs.declared.RoadGlobals.{RoadGlobals}
 use Rattle.sheets.specs.declared.PeriodGlobals.{PeriodGlobals}
 use Rattle.conditions.specs.Filling.{Filling, filling-start, filling-fits, filling-more, filling-done, shortcuts-done}
 use Rattle.conditions.specs.Good.{good-globals}
-use Rattle.conditions.proofs.fill.Statement.{statement}
-use Rattle.conditions.proofs.fill.Tie as tie
+use Rattle.conditions.proofs.work_out.Statement.{statement}
+use Rattle.conditions.proofs.work_out.Tie as tie
 
 abbrev Inv-loop : tie.InvT-loop
 Inv-loop road period row₀ g ns i₀ row i = Filling road period g ns row i
@@ -65,5 +65,5 @@ loop-again c =
 returns : tie.Need-returns Inv-loop μ-loop
 returns c = (filling-done _ _ _ _ _ _ (c .before .loop .inv) (c .loop-test .left), shortcuts-done _ _ _ _ _ _ (c .before .loop .inv) (c .loop-test .left))
 
-pub fill-spec : {M : Type 1} → statement M
-fill-spec = tie.close (tie.spec Inv-loop μ-loop globals-of-road-requires globals-of-period-requires cast-ns element-write-row element-write-row-2 element-write-row-3 loop-holds segment-at-requires ramp-at-requires in-force-requires put-in-force-requires add-i loop-less loop-again returns)
+pub work-out-spec : {M : Type 1} → statement M
+work-out-spec = tie.close (tie.spec Inv-loop μ-loop globals-of-road-requires globals-of-period-requires cast-ns element-write-row element-write-row-2 element-write-row-3 loop-holds segment-at-requires ramp-at-requires in-force-requires put-in-force-requires add-i loop-less loop-again returns)
