@@ -14,7 +14,7 @@ use Rattle.steps.specs.declared.Sent.{Sent}
 use Rattle.rules.specs.declared.Split.{Split}
 use Rattle.steps.specs.declared.State.{State}
 use Rattle.conditions.specs.Conditions.{Conditions, inForceAt}
-use Rattle.conditions.specs.Shortcuts.{easyBelow, fullFrom, shortcutsOf}
+use Rattle.conditions.specs.Shortcuts.{fullFrom, shortcutsOf}
 use Rattle.conditions.specs.Values.{values-at}
 use Rattle.rules.specs.Rules.{off, through, leaving}
 use Rattle.rules.specs.Split.{GoodSplit, through-most}
@@ -41,10 +41,10 @@ pub record Movable (here : InForce) (cell : Cell) (flow : Flow) (sent : Sent) (a
 pub good-here : (c : Conditions) (i : ℕ) (here : InForce) → GoodConditions c → i < c .segments → here ≡ inForceAt c i → GoodPlace here
 good-here c i here good h e = rw e (good .place i h)
 
--- and its shortcuts are those of what is in force
-pub short-here : (here place : InForce) (short : Shortcuts) → here ≡ place → short ≡ shortcutsOf place → (short .reach ≡ 22 * here .speed) × (short .easy ≡ easyBelow (here .jam) (here .critical) (here .capacity)) × (short .full ≡ fullFrom (here .length) (short .reach) (here .capacity))
+-- and what D goes by is that of what is in force
+pub short-here : (here place : InForce) (short : Shortcuts) → here ≡ place → short ≡ shortcutsOf place → (short .reach ≡ 22 * here .speed) × (short .full ≡ fullFrom (here .length) (short .reach) (here .capacity))
 unfolding shortcutsOf
-short-here here place short e s = rw (s, e) (refl, refl, refl)
+short-here here place short e s = rw (s, e) (refl, refl)
 
 pub fits-split : (here : InForce) (cell : Cell) (split : Split) → split ≡ splitOf here cell → GoodPlace here → Held 5760 cell → GoodSplit split
 fits-split here cell split s good held = rw s (good-split here cell good held)

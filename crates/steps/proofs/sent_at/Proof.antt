@@ -27,7 +27,7 @@ wish-to-leave-requires c κs =
     let p = c .before .before .before .pre in
     let g = good-here _ _ _ (p .0) (p .2) (c .before .before .in-force-at .ensures) in
     let s = short-here _ _ _ (c .before .before .in-force-at .ensures) (c .before .shortcuts-at .ensures) in
-    (g .capacity, g .length .0, g .length .1, omega (arith, s .0, g .speed .0), s .2)
+    (g .capacity, g .length .0, g .length .1, omega (arith, s .0, g .speed .0), s .1)
 
 most-leaving-requires : tie.Need-most-leaving-requires
 most-leaving-requires c κs =
