@@ -1,12 +1,12 @@
--- What is in force while a step is made: NS, the mainline demand, the exit capacity X, and at each segment the numbers that the step rules
--- of document 01, "One step", go by there. Here alone a road and a period sheet become conditions.
+-- Document 01, "One step": what is in force while a step is made (NS, the mainline demand, the exit capacity X, and at each segment the
+-- numbers that the rules go by there). Here alone a road and a period sheet become conditions.
 use Prim.Native.Nat.{ℕ, _-_, _*_, _/_, min}
 use mathlib.Core.List.{List}
 use lib.ListN.{getD}
-use Rattle.sheets.specs.declared.RoadGlobals.{RoadGlobals}
-use Rattle.sheets.specs.declared.Segment.{Segment}
-use Rattle.sheets.specs.declared.Ramp.{Ramp}
-use Rattle.sheets.specs.Parts.{roadGlobals, segmentOf, periodGlobals, rampOf}
+use Rattle.parts.specs.declared.RoadGlobals.{RoadGlobals}
+use Rattle.parts.specs.declared.Segment.{Segment}
+use Rattle.parts.specs.declared.Ramp.{Ramp}
+use Rattle.parts.specs.Parts.{roadGlobals, segmentOf, periodGlobals, rampOf}
 use Rattle.conditions.specs.declared.InForce.{InForce}
 use Rattle.conditions.specs.Values.{valuesTo}
 
@@ -15,7 +15,7 @@ unfoldable pub partsAt : (density lanes length : ℕ) → ℕ
 partsAt k n l = k * n * l / 22
 
 -- C behind a queue: C × (100 − A) / 100
-unfoldable pub loweredBy : (drop capacity : ℕ) → ℕ
+unfoldable pub loweredBy : (cut capacity : ℕ) → ℕ
 loweredBy a c = c * (100 - a) / 100
 
 -- what is in force at a segment, from the road's KJ, KC and A, the segment, and its ramp's entry in the sheet: L, V, N, C, C behind a queue,
@@ -26,7 +26,7 @@ inForce g seg ramp = record {
   speed = seg .speed;
   lanes = seg .lanes;
   capacity = seg .capacity;
-  lowered = loweredBy (g .drop) (seg .capacity);
+  lowered = loweredBy (g .cut) (seg .capacity);
   jam = partsAt (g .jam) (seg .lanes) (seg .length);
   critical = partsAt (g .critical) (seg .lanes) (seg .length);
   limit = min (seg .onramp) (ramp .meter);
@@ -45,9 +45,9 @@ unfoldable pub demandUnder : SheetInForce → ℕ
 demandUnder None = 0
 demandUnder (Under period) = periodGlobals period .demand
 
-unfoldable pub exitUnder : SheetInForce → ℕ
-exitUnder None = 0
-exitUnder (Under period) = periodGlobals period .exit
+unfoldable pub outletUnder : SheetInForce → ℕ
+outletUnder None = 0
+outletUnder (Under period) = periodGlobals period .outlet
 
 unfoldable pub rampUnder : SheetInForce → ℕ → Ramp
 rampUnder None i = record { demand = 0; meter = 0 }
@@ -57,7 +57,7 @@ rampUnder (Under period) i = rampOf period i
 pub record Conditions : Type 0 where
   pub segments : ℕ
   pub demand : ℕ
-  pub exit : ℕ
+  pub outlet : ℕ
   pub places : List InForce
 
 -- NS of a road
@@ -73,7 +73,7 @@ unfoldable pub conditionsOf : List ℕ → SheetInForce → Conditions
 conditionsOf road sheet = record {
   segments = segments road;
   demand = demandUnder sheet;
-  exit = exitUnder sheet;
+  outlet = outletUnder sheet;
   places = valuesTo (inForceOf road sheet) (segments road);
 }
 

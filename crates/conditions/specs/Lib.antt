@@ -1,7 +1,6 @@
 pub mod Values
-pub mod Puts
 pub mod Conditions
 pub mod Shortcuts
+pub mod Puts
 pub mod Row
 pub mod Good
-pub mod Filling

@@ -1,4 +1,4 @@
--- What spares a step some work: three numbers of what is in force at a segment, worked out with it. No rule speaks of them.
+-- What spares a step some work, three numbers of what is in force at a segment: no rule of document 01.
 use Prim.Native.Nat.{ℕ, _+_, _-_, _*_, _/_, min}
 use lib.Dec.{leb, ltb}
 use Rattle.numbers.specs.Choice.{if_then_else_}

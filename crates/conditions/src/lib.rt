@@ -1,12 +1,12 @@
 // What is in force while a step is made, worked out once from a road and a period sheet into a row of numbers.
 use arithmetic::least;
-use sheets::Ramp;
-use sheets::RoadGlobals;
-use sheets::Segment;
+use parts::Ramp;
+use parts::RoadGlobals;
+use parts::Segment;
 ghost use mathlib.Core.Path.{_≡_};
 ghost use Prim.Native.Nat.{_≤_, _<_};
 ghost use lib.ListN.{length};
-ghost use Rattle.sheets.specs.Good.{GoodSegment, GoodRoad, GoodPeriod};
+ghost use Rattle.parts.specs.Good.{GoodSegment, GoodRoad, GoodPeriod};
 ghost use Rattle.conditions.specs.Conditions.{partsAt, loweredBy, inForce, Under, conditionsOf, inForceAt};
 ghost use Rattle.conditions.specs.Shortcuts.{easyBelow, fullFrom, shortcutsOf};
 ghost use Rattle.conditions.specs.Good.{GoodGlobals, GoodPlace};
@@ -45,11 +45,11 @@ fn parts_at(density: u32, lanes: u32, length: u32) -> u32
 }
 
 // C behind a queue.
-fn lowered_by(drop: u32, capacity: u32) -> u32
-    requires { ⌜ (drop ≤ 50) × (capacity ≤ 20000) ⌝ }
-    ensures { λ r. ⌜ r ≡ loweredBy drop capacity ⌝ }
+fn lowered_by(cut: u32, capacity: u32) -> u32
+    requires { ⌜ (cut ≤ 50) × (capacity ≤ 20000) ⌝ }
+    ensures { λ r. ⌜ r ≡ loweredBy cut capacity ⌝ }
 {
-    capacity * (100 - drop) / 100
+    capacity * (100 - cut) / 100
 }
 
 // What is in force at a segment, by the road's globals, the segment and its ramp's entry in the sheet.
@@ -62,7 +62,7 @@ fn in_force(g: RoadGlobals, seg: Segment, ramp: Ramp) -> InForce
         speed: seg.speed,
         lanes: seg.lanes,
         capacity: seg.capacity,
-        lowered: lowered_by(g.drop, seg.capacity),
+        lowered: lowered_by(g.cut, seg.capacity),
         jam: parts_at(g.jam, seg.lanes, seg.length),
         critical: parts_at(g.critical, seg.lanes, seg.length),
         limit: least(seg.onramp, ramp.meter),
@@ -135,15 +135,19 @@ pub fn work_out(road: &[u32; 452], period: &[u32; 452], row: &mut [u32; 835])
     requires { ⌜ GoodRoad (now road) × GoodPeriod (now road) (now period) × (length (now row) ≡ 835) ⌝ }
     ensures { λ _. ⌜ (conditionsIn (now (row .exit)) ≡ conditionsOf (now (road .entry)) (Under (now (period .entry)))) × HasShortcuts (now (row .exit)) ⌝ }
 {
-    let g = sheets::globals_of_road(road);
-    let sheet = sheets::globals_of_period(period);
+    let g = parts::globals_of_road(road);
+    let sheet = parts::globals_of_period(period);
     let ns = g.segments as usize;
     row[0] = g.segments;
     row[1] = sheet.demand;
-    row[2] = sheet.exit;
+    row[2] = sheet.outlet;
     let mut i: usize = 0;
     while i < ns {
-        let here = in_force(g, sheets::segment_at(road, i), sheets::ramp_at(period, i));
+        let here = in_force(
+            g,
+            parts::segment_at(road, i as u32),
+            parts::ramp_at(period, i as u32),
+        );
         put_in_force(row, i, here);
         i += 1;
     }
@@ -162,8 +166,8 @@ pub fn demand_in(row: &[u32; 835]) -> u32
     row[1]
 }
 
-pub fn exit_in(row: &[u32; 835]) -> u32
-    ensures { λ r. ⌜ r ≡ conditionsIn (now (row .entry)) .exit ⌝ }
+pub fn outlet_in(row: &[u32; 835]) -> u32
+    ensures { λ r. ⌜ r ≡ conditionsIn (now (row .entry)) .outlet ⌝ }
 {
     row[2]
 }

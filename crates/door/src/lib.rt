@@ -1,11 +1,11 @@
 // A facility as a value, and the test at the door: whether a laying and calls can have produced it.
 use arithmetic::less;
 use arithmetic::wide;
-use steps::Cell;
+use segment::Cell;
 use steps::State;
 ghost use mathlib.Core.Path.{_≡_};
 ghost use Prim.Native.Nat.{_≤_};
-ghost use Rattle.door.specs.Sound.{stepsBy, counted, sheeted, heldIn, held, summed, sound};
+ghost use Rattle.door.specs.Sound.{stepsBy, counted, sheeted, cellBounded, stateBounded, sumsBounded, sound};
 
 // A road that is laid, the period sheet in force with the sheets taken so far and the steps made under the last, the state of the
 // step rules, and the sums: arrived, left and part-steps.
@@ -40,32 +40,32 @@ fn is_sheeted<'a>(taken: u32, road: &'a [u32; 452], period: &'a [u32; 452]) -> b
     if taken == 0 {
         return true;
     }
-    sheets::is_period(road, period)
+    parts::is_period(road, period)
 }
 
-fn is_held_in(t: u32, cell: Cell) -> bool
+fn is_cell_bounded(t: u32, cell: Cell) -> bool
     requires { ⌜ t ≤ 5760 ⌝ }
-    ensures { λ r. ⌜ r ≡ heldIn t cell ⌝ }
+    ensures { λ r. ⌜ r ≡ cellBounded t cell ⌝ }
 {
     (cell.n <= 2880000) & (cell.q <= 10000 * t)
 }
 
-fn is_held(ns: usize, t: u32, state: State) -> bool
+fn is_state_bounded(ns: usize, t: u32, state: State) -> bool
     requires { ⌜ (ns ≤ 64) × (t ≤ 5760) ⌝ }
-    ensures { λ r. ⌜ r ≡ held ns t state ⌝ }
+    ensures { λ r. ⌜ r ≡ stateBounded ns t state ⌝ }
 {
     let mut ok = true;
     let mut i: usize = 0;
     while i < ns {
-        ok = ok & is_held_in(t, state.cells[i]);
+        ok = ok & is_cell_bounded(t, state.cells[i]);
         i += 1;
     }
     ok & (state.origin <= 20000 * t)
 }
 
-fn is_summed(t: u64, arrived: u64, left: u64, partsteps: u64) -> bool
+fn are_sums_bounded(t: u64, arrived: u64, left: u64, partsteps: u64) -> bool
     requires { ⌜ t ≤ 5760 ⌝ }
-    ensures { λ r. ⌜ r ≡ summed t arrived left partsteps ⌝ }
+    ensures { λ r. ⌜ r ≡ sumsBounded t arrived left partsteps ⌝ }
 {
     (arrived <= 660000 * t) & ((left <= 660000 * t) & (partsteps <= 3801600000 * t))
 }
@@ -81,9 +81,18 @@ pub fn fields_are_sound<'a>(
     left: u64,
     partsteps: u64,
 ) -> bool
-    ensures { λ r. ⌜ r ≡ sound (record { road = now (road .entry); period = now (period .entry); taken = taken; made = made; state = state; arrived = arrived; left = left; partsteps = partsteps }) ⌝ }
+    ensures { λ r. ⌜ r ≡ sound (record {
+      road = now (road .entry);
+      period = now (period .entry);
+      taken = taken;
+      made = made;
+      state = state;
+      arrived = arrived;
+      left = left;
+      partsteps = partsteps;
+    }) ⌝ }
 {
-    if !sheets::is_road(road) {
+    if !parts::is_road(road) {
         return false;
     }
     if !is_counted(taken, made) {
@@ -93,10 +102,10 @@ pub fn fields_are_sound<'a>(
         return false;
     }
     let t = steps_by(taken, made);
-    if !is_held(road[0] as usize, t, state) {
+    if !is_state_bounded(road[0] as usize, t, state) {
         return false;
     }
-    is_summed(wide(t), arrived, left, partsteps)
+    are_sums_bounded(wide(t), arrived, left, partsteps)
 }
 
 // The same of a facility.

@@ -6,27 +6,30 @@ use mathlib.Core.List.{List, [], _∷_}
 use native.Mathlib.Omega.{arith}
 use native.Mathlib.Numerals.{add-one}
 use lib.ListN.{length}
-use lib.Dec.{ltb, eqb}
-use borrow.Author.Tests.{leb-false, ltb-false}
-use Rattle.numbers.specs.Choice.{if_then_else_}
-use Rattle.sheets.specs.Allowed.{roadAllowed, periodAllowed}
-use Rattle.sheets.specs.Good.{GoodRoad, good-road, good-period, read-period-allowed}
-use Rattle.sheets.specs.Read.{Rows, ReadRow, RefusedAt, readPeriod, padded}
-use Rattle.steps.specs.declared.Cell.{Cell}
+use lib.Dec.{ltb}
+use borrow.Author.Tests.{ltb-false}
+use Rattle.parts.specs.Allowed.{roadAllowed, periodAllowed}
+use Rattle.parts.specs.Good.{GoodRoad}
+use Rattle.parts.proofs.Good.{good-road, good-period, read-period-allowed}
+use Rattle.numbers.specs.Row.{Rows, ReadRow, RefusedAt}
+use Rattle.sheets.specs.Read.{padded}
+use Rattle.segment.specs.declared.Cell.{Cell}
 use Rattle.conditions.specs.Conditions.{Conditions, inForceAt, inForce, SheetInForce, None, Under, conditionsOf, segments}
 use Rattle.steps.specs.Step.{cellIn, stepped, freshState, arrivedOf, leftOf, storedOf, sumTo}
-use Rattle.conditions.specs.Good.{GoodSheet, none as none-sheet, under, good-conditions, in-force-at, conditions-segments}
-use Rattle.steps.specs.Held.{Bounded}
-use Rattle.steps.specs.Laws.{stepped-length}
-use Rattle.steps.specs.Bounds.{bounded-after, bounded-fresh, cell-fresh, arrived-most, left-most}
-use Rattle.steps.specs.Claims.{stepped-holds}
+use Rattle.conditions.proofs.Good.{GoodSheet, none as none-sheet, under, good-conditions, in-force-at, conditions-segments}
+use Rattle.steps.specs.Bounded.{Bounded}
+use Rattle.steps.proofs.Laws.{stepped-length}
+use Rattle.steps.proofs.Bounds.{bounded-after, bounded-fresh, cell-fresh, arrived-most, left-most}
+use Rattle.steps.proofs.Claims.{stepped-holds}
 use Rattle.door.specs.Sound.{stepsBy}
-use Rattle.facility.specs.Ledger.{Call, Take, Run, Report, Totals, Trail, stateAfter, arrivedIn, leftIn, partstepsIn, stepFrom, more, Book, conditionsBy, opened, withRow, withSteps, running, full, outside, after}
+use Rattle.facility.specs.Ledger.{Call, Take, Run, Report, Totals, Trail, stateAfter, arrivedIn, leftIn, partstepsIn, stepFrom, moreSteps, Book, conditionsBy, opened, withRow, withRun, after}
+use Rattle.facility.specs.Verdicts.{Verdict, GoesOn, RefusedBy, unfinished, takeVerdict, runVerdict}
+use Rattle.facility.proofs.Verdicts.{take-accepted, run-accepted}
 use Rattle.facility.specs.Claims.{Every, none, and, Chained, start, link, Right, Balanced, nothing, still}
-use Rattle.facility.specs.Ready.{Summed}
+use Rattle.door.proofs.Sound.{BoundedSums}
 
 -- the invariant of a trail on a road: its steps are right, and what it leaves is bounded and at most the jam, under any sheet
-pub record Kept (road : List ℕ) (t : Trail) : Type 0 where
+pub record KeptTrail (road : List ℕ) (t : Trail) : Type 0 where
   pub right : Every Right t
   pub chained : Chained t
   pub balanced : Balanced t
@@ -34,20 +37,21 @@ pub record Kept (road : List ℕ) (t : Trail) : Type 0 where
   pub jam : (sheet : SheetInForce) (i : ℕ) → i < segments road → cellIn (stateAfter t) i .n ≤ inForceAt (conditionsOf road sheet) i .jam
   pub bounds : Bounded (segments road) (length t) (stateAfter t)
   pub balance : arrivedIn t ≡ leftIn t + storedOf (segments road) (stateAfter t)
-  pub sums : Summed (length t) (arrivedIn t) (leftIn t) (partstepsIn t)
+  pub sums : BoundedSums (length t) (arrivedIn t) (leftIn t) (partstepsIn t)
 
 -- the jam is the road's alone
 same-jam : (road : List ℕ) (s t : SheetInForce) (i : ℕ) → i < segments road → inForceAt (conditionsOf road s) i .jam ≡ inForceAt (conditionsOf road t) i .jam
 unfolding inForce
 same-jam road s t i h = rw (in-force-at road s i h, in-force-at road t i h)
 
-length-more : (c : Conditions) (n : ℕ) (t : Trail) → length (more c n t) ≡ length t + n
+length-more : (c : Conditions) (n : ℕ) (t : Trail) → length (moreSteps c n t) ≡ length t + n
 length-more c zero t = omega arith
 length-more c (suc n) t = omega (arith, length-more c n t)
 
 module _ (road : List ℕ) (good : GoodRoad road) where
   -- a step more
-  kept-step : (sheet : SheetInForce) → GoodSheet road sheet → (t : Trail) → length t < 5760 → Kept road t → Kept road (stepFrom (conditionsOf road sheet) (stateAfter t) ∷ t)
+  kept-step : (sheet : SheetInForce) → GoodSheet road sheet → (t : Trail) → length t < 5760 → KeptTrail road t
+      → KeptTrail road (stepFrom (conditionsOf road sheet) (stateAfter t) ∷ t)
   unfolding arrivedIn leftIn partstepsIn
   kept-step sheet fits t few k =
       let c = conditionsOf road sheet in
@@ -78,10 +82,12 @@ module _ (road : List ℕ) (good : GoodRoad road) where
         };
       }
 
-  pub kept-more : (sheet : SheetInForce) → GoodSheet road sheet → (n : ℕ) (t : Trail) → length t + n ≤ 5760 → Kept road t → Kept road (more (conditionsOf road sheet) n t)
+  pub kept-more : (sheet : SheetInForce) → GoodSheet road sheet → (n : ℕ) (t : Trail) → length t + n ≤ 5760 → KeptTrail road t
+      → KeptTrail road (moreSteps (conditionsOf road sheet) n t)
   kept-more sheet fits zero t few k = k
   kept-more sheet fits (suc n) t few k =
-      kept-step sheet fits (more (conditionsOf road sheet) n t) (omega (arith, length-more (conditionsOf road sheet) n t)) (kept-more sheet fits n t (omega arith) k)
+      let c = conditionsOf road sheet in
+      kept-step sheet fits (moreSteps c n t) (omega (arith, length-more c n t)) (kept-more sheet fits n t (omega arith) k)
 
 -- before any sheet is taken there is none; then it is one of the road's
 pub data SheetFits (road : List ℕ) : ℕ → SheetInForce → Type 0 where
@@ -89,13 +95,13 @@ pub data SheetFits (road : List ℕ) : ℕ → SheetInForce → Type 0 where
   sheeted-as : {n : ℕ} {period : List ℕ} → 0 < n → periodAllowed road period ≡ true → SheetFits road n (Under period)
 
 -- the invariant of a book
-pub record Fine (b : Book) : Type 0 where
+pub record KeptBook (b : Book) : Type 0 where
   pub road : roadAllowed (b .road) ≡ true
   pub few : b .taken ≤ 96
   pub short : b .made ≤ 60
   pub sheet : SheetFits (b .road) (b .taken) (b .sheet)
   pub made : length (b .trail) ≡ stepsBy (b .taken) (b .made)
-  pub kept : Kept (b .road) (b .trail)
+  pub kept : KeptTrail (b .road) (b .trail)
 
 -- a fresh road holds nothing
 zeros : (g : ℕ → ℕ) (k : ℕ) → ((i : ℕ) → g i ≡ 0) → sumTo g k ≡ 0
@@ -103,7 +109,7 @@ unfolding sumTo
 zeros g zero h = refl
 zeros g (suc k) h = omega (arith, zeros g k h, h k)
 
-kept-fresh : (road : List ℕ) → Kept road []
+kept-fresh : (road : List ℕ) → KeptTrail road []
 unfolding arrivedIn leftIn partstepsIn storedOf
 kept-fresh road = record {
   right = none;
@@ -116,9 +122,9 @@ kept-fresh road = record {
   sums = record { arrived-most = omega arith; left-most = omega arith; partsteps-most = omega arith };
 }
 
-pub fine-opened : (road : List ℕ) → roadAllowed road ≡ true → Fine (opened road)
+pub kept-opened : (road : List ℕ) → roadAllowed road ≡ true → KeptBook (opened road)
 unfolding stepsBy
-fine-opened road ok = record {
+kept-opened road ok = record {
   road = ok;
   few = omega arith;
   short = omega arith;
@@ -134,46 +140,39 @@ idle-steps taken made true true p q e m = absurd (let z : _≡_ {A = ℕ} 0 1 = 
 idle-steps taken made true false p q e m = omega (arith, ltb-false made 60 q)
 idle-steps taken made false y p q e m = omega (arith, ltb-false 0 taken p)
 
-nonzero : (n : ℕ) → eqb n 0 ≡ false → 0 < n
-nonzero zero e = absurd (let z : _≡_ {A = ℕ} 0 1 = cc in omega arith)
-nonzero (suc n) e = omega arith
-
 -- the sheet in force is good
-pub good-sheet-in : (b : Book) → Fine b → GoodSheet (b .road) (b .sheet)
+pub good-sheet-in : (b : Book) → KeptBook b → GoodSheet (b .road) (b .sheet)
 good-sheet-in b f = fits-good (b .road) (good-road (b .road) (f .road)) (f .sheet)
   where
     fits-good : (road : List ℕ) → GoodRoad road → {n : ℕ} {s : SheetInForce} → SheetFits road n s → GoodSheet road s
     fits-good road good unsheeted = none-sheet
     fits-good road good (sheeted-as some e) = under (good-period road _ good e)
 
-row-by : (b : Book) → Fine b → running b ≡ false → b .taken < 96 → (r : Rows)
-    → ((row : List ℕ) (used : ℕ) → r ≡ ReadRow row used → periodAllowed (b .road) (padded row) ≡ true) → Fine (withRow b r)
-row-by b f idle room (ReadRow row used) h = record {
-  road = f .road;
-  few = omega arith;
-  short = omega arith;
-  sheet = sheeted-as {n = b .taken + 1} (omega arith) (h row used refl);
-  made = f .made ∙ idle-steps (b .taken) (b .made) (ltb 0 (b .taken)) (ltb (b .made) 60) refl refl idle (f .short);
-  kept = f .kept;
-}
-row-by b f idle room (RefusedAt e at) h = f
+-- a sheet taken, by the verdict: what it needs to have been accepted
+row-by : (b : Book) → KeptBook b → (r : Rows)
+    → ((row : List ℕ) (used : ℕ) → r ≡ ReadRow row used
+    → (unfinished (b .taken) (b .made) ≡ false) × (b .taken < 96) × (periodAllowed (b .road) (padded row) ≡ true))
+    → KeptBook (withRow b r)
+unfolding unfinished
+row-by b f (ReadRow row used) h =
+    let a = h row used refl in
+    record {
+      road = f .road;
+      few = omega (arith, a .1);
+      short = omega arith;
+      sheet = sheeted-as {n = b .taken + 1} (omega arith) (a .2);
+      made = f .made ∙ idle-steps (b .taken) (b .made) (ltb 0 (b .taken)) (ltb (b .made) 60) refl refl (a .0) (f .short);
+      kept = f .kept;
+    }
+row-by b f (RefusedAt e at) h = f
 
-take-by : (b : Book) (bytes : List ℕ) → Fine b → (x y : Bool) → running b ≡ x → full b ≡ y
-    → Fine (if x then b else if y then b else withRow b (readPeriod (b .road) bytes))
-take-by b bytes f true y p q = f
-take-by b bytes f false true p q = f
-take-by b bytes f false false p q =
-    row-by b f p (leb-false _ _ q) (readPeriod (b .road) bytes) (λ row used e. read-period-allowed (b .road) bytes row used e)
-
-run-by : (b : Book) (k : ℕ) → Fine b → (x y z : Bool) → eqb (b .taken) 0 ≡ y → ltb (60 - b .made) k ≡ z
-    → Fine (if x then b else if y then b else if z then b else withSteps k b)
+-- a run, by the verdict
+run-by : (b : Book) (k : ℕ) → KeptBook b → (v : Verdict) → (v ≡ GoesOn → (0 < b .taken) × (k ≤ 60 - b .made)) → KeptBook (withRun b k v)
 unfolding stepsBy
-run-by b k f true y z q r = f
-run-by b k f false true z q r = f
-run-by b k f false false true q r = f
-run-by b k f false false false q r =
-    let some : 0 < b .taken = nonzero (b .taken) q in
-    let room : k ≤ 60 - b .made = ltb-false _ _ r in
+run-by b k f (RefusedBy e) h = f
+run-by b k f GoesOn h =
+    let some = h refl .0 in
+    let room = h refl .1 in
     let good = good-road (b .road) (f .road) in
     record {
       road = f .road;
@@ -184,8 +183,11 @@ run-by b k f false false false q r =
       kept = kept-more (b .road) good (b .sheet) (good-sheet-in b f) k (b .trail) (omega (arith, f .made, f .few, f .short)) (f .kept);
     }
 
-pub fine-after : (b : Book) (c : Call) → Fine b → Fine (after b c)
-fine-after b (Take bytes) f = take-by b bytes f (running b) (full b) refl refl
-fine-after b (Run k) f = run-by b k f (outside 1 60 k) (eqb (b .taken) 0) (ltb (60 - b .made) k) refl refl
-fine-after b (Report i) f = f
-fine-after b Totals f = f
+pub kept-after : (b : Book) (c : Call) → KeptBook b → KeptBook (after b c)
+kept-after b (Take bytes) f =
+    row-by b f (takeVerdict (b .road) (b .taken) (b .made) bytes) (λ row used e.
+    let a = take-accepted (b .road) (b .taken) (b .made) bytes row used e in
+    (a .0, a .1, read-period-allowed (b .road) bytes row used (a .2)))
+kept-after b (Run k) f = run-by b k f (runVerdict (b .taken) (b .made) k) (run-accepted (b .taken) (b .made) k)
+kept-after b (Report i) f = f
+kept-after b Totals f = f

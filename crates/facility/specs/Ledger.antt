@@ -1,11 +1,11 @@
 -- Document 01, "The list statement": the ledger, worked out from the road and the calls' arguments alone. It names no facility.
 use Prim.Native.Nat.{ℕ, zero, suc, _+_, _-_}
-use mathlib.Core.Bool.{Bool, _&&_, _||_}
 use mathlib.Core.List.{List, [], _∷_}
-use lib.Dec.{leb, ltb, eqb}
-use Rattle.numbers.specs.Choice.{if_then_else_}
-use Rattle.sheets.specs.Read.{Rows, ReadRow, RefusedAt, readPeriod, padded}
-use Rattle.steps.specs.declared.Cell.{Cell}
+use lib.ListN.{take}
+use Rattle.numbers.specs.Row.{Rows, ReadRow, RefusedAt}
+use Rattle.sheets.specs.Read.{padded}
+use Rattle.facility.specs.Verdicts.{Verdict, GoesOn, RefusedBy, takeVerdict, runVerdict, reportVerdict}
+use Rattle.segment.specs.declared.Cell.{Cell}
 use Rattle.steps.specs.declared.State.{State}
 use Rattle.letters.specs.declared.Level.{Level}
 use Rattle.conditions.specs.declared.InForce.{InForce}
@@ -69,9 +69,9 @@ partstepsIn (s ∷ t) = partstepsIn t + (arrivedIn (s ∷ t) - leftIn (s ∷ t))
 abbrev pub stepFrom : Conditions → State → Step
 stepFrom c state = record { conditions = c; before = state; after = stepped c state }
 
-abbrev pub more : Conditions → ℕ → Trail → Trail
-more c zero t = t
-more c (suc k) t = stepFrom c (stateAfter (more c k t)) ∷ more c k t
+abbrev pub moreSteps : Conditions → ℕ → Trail → Trail
+moreSteps c zero t = t
+moreSteps c (suc k) t = stepFrom c (stateAfter (moreSteps c k t)) ∷ moreSteps c k t
 
 -- the book: the road and the sheet in force, the number of sheets taken, the steps made under the last, and the trail
 pub record Book : Type 0 where
@@ -89,64 +89,53 @@ conditionsBy b = conditionsOf (b .road) (b .sheet)
 abbrev pub opened : List ℕ → Book
 opened road = record { road = road; sheet = None; taken = 0; made = 0; trail = [] }
 
--- Take a period sheet: 12, 13, then the reading
-abbrev pub read : Rows → Answer
-read (ReadRow row used) = Taken used
-read (RefusedAt number offset) = Refused number offset
+-- Take a period sheet, by its verdict: the answer, and the book after it
+abbrev pub takenAs : Rows → Answer
+takenAs (ReadRow row used) = Taken used
+takenAs (RefusedAt number offset) = Refused number offset
 
 abbrev pub withRow : Book → Rows → Book
 withRow b (ReadRow row used) = record { road = b .road; sheet = Under (padded row); taken = b .taken + 1; made = 0; trail = b .trail }
 withRow b (RefusedAt number offset) = b
 
--- the period in force isn't run out; 96 periods are taken
-abbrev pub running : Book → Bool
-running b = ltb 0 (b .taken) && ltb (b .made) 60
-
-abbrev pub full : Book → Bool
-full b = leb 96 (b .taken)
-
--- k is outside low..high
-abbrev pub outside : (low high k : ℕ) → Bool
-outside low high k = ltb k low || ltb high k
-
 -- the figures of a cell
-abbrev pub told : Cell → Figures
-told cell = record { n = cell .n; q = cell .q; main = cell .main; ramp = cell .ramp; off = cell .off; out = cell .out }
+abbrev pub figuresOf : Cell → Figures
+figuresOf cell = record { n = cell .n; q = cell .q; main = cell .main; ramp = cell .ramp; off = cell .off; out = cell .out }
 
 -- a report of a segment: n, q and the last step's flows, and the letter by what is in force there
 abbrev pub reportIn : Cell → InForce → Answer
-reportIn cell here = Reported (told cell) (levelOf (cell .n) (here .length) (here .lanes))
+reportIn cell here = Reported (figuresOf cell) (levelOf (cell .n) (here .length) (here .lanes))
 
 -- the book with k steps more
 abbrev pub withSteps : ℕ → Book → Book
-withSteps k b = record { road = b .road; sheet = b .sheet; taken = b .taken; made = b .made + k; trail = more (conditionsBy b) k (b .trail) }
+withSteps k b = record { road = b .road; sheet = b .sheet; taken = b .taken; made = b .made + k; trail = moreSteps (conditionsBy b) k (b .trail) }
 
--- the answer of a call, by the tables' order of checks (9 never comes, for the road is laid). Take: 12, 13, then the reading. Run: 5, 10, 11.
--- Report, segments counted from 1: 6
+-- Run k steps, by its verdict: the answer, and the book after it
+abbrev pub ranAs : Verdict → Answer
+ranAs GoesOn = Ran
+ranAs (RefusedBy number) = Refused number 0
+
+abbrev pub withRun : Book → ℕ → Verdict → Book
+withRun b k GoesOn = withSteps k b
+withRun b k (RefusedBy number) = b
+
+-- Segment report, by its verdict; segments are counted from 1
+abbrev pub reportedAs : Book → (segment : ℕ) → Verdict → Answer
+reportedAs b i GoesOn = reportIn (cellIn (stateAfter (b .trail)) (i - 1)) (inForceAt (conditionsBy b) (i - 1))
+reportedAs b i (RefusedBy number) = Refused number 0
+
+-- the answer of a call, by the verdict of its table (9 never comes, for the road is laid)
 abbrev pub answer : Book → Call → Answer
-answer b (Take bytes) =
-    if running b then Refused 12 0
-    else if full b then Refused 13 0
-    else read (readPeriod (b .road) bytes)
-answer b (Run k) =
-    if outside 1 60 k then Refused 5 0
-    else if eqb (b .taken) 0 then Refused 10 0
-    else if ltb (60 - b .made) k then Refused 11 0
-    else Ran
-answer b (Report i) =
-    if outside 1 (segments (b .road)) i then Refused 6 0
-    else reportIn (cellIn (stateAfter (b .trail)) (i - 1)) (inForceAt (conditionsBy b) (i - 1))
+answer b (Take bytes) = takenAs (takeVerdict (b .road) (b .taken) (b .made) bytes)
+answer b (Run k) = ranAs (runVerdict (b .taken) (b .made) k)
+answer b (Report i) = reportedAs b i (reportVerdict (b .road) i)
 answer b Totals =
     Summed (arrivedIn (b .trail)) (leftIn (b .trail)) (storedOf (segments (b .road)) (stateAfter (b .trail))) (partstepsIn (b .trail))
 
 -- the book after a call: "a call that the tables refuse changes nothing, nor do a segment report and totals"
 abbrev pub after : Book → Call → Book
-after b (Take bytes) = if running b then b else if full b then b else withRow b (readPeriod (b .road) bytes)
-after b (Run k) =
-    if outside 1 60 k then b
-    else if eqb (b .taken) 0 then b
-    else if ltb (60 - b .made) k then b
-    else withSteps k b
+after b (Take bytes) = withRow b (takeVerdict (b .road) (b .taken) (b .made) bytes)
+after b (Run k) = withRun b k (runVerdict (b .taken) (b .made) k)
 after b (Report i) = b
 after b Totals = b
 
@@ -158,3 +147,15 @@ answers b (c ∷ cs) = answer b c ∷ answers (after b c) cs
 abbrev pub bookAfter : Book → List Call → Book
 bookAfter b [] = b
 bookAfter b (c ∷ cs) = bookAfter (after b c) cs
+
+-- the bytes of the period in force, as the last accepted taking of the list used them; `before` are those of a period taken before the list
+abbrev pub usedBy : Rows → (bytes before : List ℕ) → List ℕ
+usedBy (ReadRow row used) bytes before = take used bytes
+usedBy (RefusedAt number offset) bytes before = before
+
+abbrev pub periodBytes : Book → (before : List ℕ) → List Call → List ℕ
+periodBytes b before [] = before
+periodBytes b before (Take bytes ∷ cs) = periodBytes (after b (Take bytes)) (usedBy (takeVerdict (b .road) (b .taken) (b .made) bytes) bytes before) cs
+periodBytes b before (Run k ∷ cs) = periodBytes (after b (Run k)) before cs
+periodBytes b before (Report i ∷ cs) = periodBytes b before cs
+periodBytes b before (Totals ∷ cs) = periodBytes b before cs

@@ -1,4 +1,4 @@
--- The facility that shows a book of the ledger, in every field.
+-- Document 01, "The list statement": the facility that shows a book of the ledger, in every field.
 use mathlib.Core.List.{List}
 use Prim.Native.Nat.{ℕ}
 use Rattle.conditions.specs.Conditions.{SheetInForce, None, Under}

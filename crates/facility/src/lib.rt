@@ -1,21 +1,18 @@
 // The calls on a facility: a road with its state, its sheet in force and its sums, by value.
-use arithmetic::less_wide;
-use arithmetic::wide;
 use door::Facility;
 use door::fields_are_sound;
 use door::is_sound;
 use letters::Level;
 use numbers::Written;
-use steps::Ends;
 ghost use mathlib.Core.Path.{_≡_};
-ghost use Prim.Native.Nat.{_<_};
+ghost use Prim.Native.Nat.{_≤_, _<_};
 ghost use Rattle.numbers.specs.Writing.{writing};
-ghost use Rattle.sheets.specs.Good.{GoodRoad};
+ghost use Rattle.parts.specs.Good.{GoodRoad};
 ghost use Rattle.sheets.specs.Read.{readPeriod};
 ghost use Rattle.conditions.specs.Conditions.{segments};
 ghost use Rattle.steps.specs.Step.{cellIn};
-ghost use Rattle.facility.specs.Calls.{freshOn, refused, layOf, unfinished, withSheet, takenBy, takeOf, stepsOf, runOf, reported, noReport, levelAt, reportOf, totalsOf, writeRoadOf, roadBuffer, writePeriodOf, periodBuffer};
-ghost use Rattle.facility.specs.Ready.{Ready};
+ghost use Rattle.facility.specs.Calls.{freshOn, refused, layOf, withSheet, takenBy, takeOf, runOf, reported, noReport, levelAt, reportOf, totalsOf, writeRoadOf, writePeriodOf};
+ghost use Rattle.facility.specs.Verdicts.{unfinished, numberOf, runVerdict};
 
 // What laying, taking and running give: refusal is 0, or its number with its offset; used counts the bytes read.
 pub struct Reply {
@@ -165,46 +162,24 @@ pub fn take(f: Facility, bytes: &[u8]) -> Reply
     take_sheet(f, bytes)
 }
 
-// Makes k steps under the sheet in force, in place in a row of cells.
-fn make_steps(f: Facility, k: u32) -> Facility
-    requires { ⌜ Ready f k ⌝ }
-    ensures { λ r. ⌜ r ≡ stepsOf k f ⌝ }
+// What stands against a run of k steps: its refusal's number, or 0.
+fn run_refusal(taken: u32, made: u32, k: u32) -> u8
+    requires { ⌜ made ≤ 60 ⌝ }
+    ensures { λ r. ⌜ r ≡ numberOf (runVerdict taken made k) ⌝ }
 {
-    let road = f.road;
-    let period = f.period;
-    let state = f.state;
-    let mut row = [0u32; 835];
-    conditions::work_out(&road, &period, &mut row);
-    let arrives = wide(steps::arrived(&row));
-    let mut cells = [0u32; 384];
-    steps::put_cells(&mut cells, state);
-    let mut ends = Ends {
-        origin: state.origin,
-        exit: state.exit,
-    };
-    let mut arrived = f.arrived;
-    let mut left = f.left;
-    let mut partsteps = f.partsteps;
-    let mut i: u32 = 0;
-    while i < k {
-        let next = steps::step(&row, &mut cells, ends);
-        ends = next.ends;
-        arrived += arrives;
-        left += wide(next.left);
-        partsteps += less_wide(arrived, left);
-        i += 1;
+    if k < 1 {
+        return 5;
     }
-    let after = steps::state_of(&cells, ends);
-    Facility {
-        road,
-        period,
-        taken: f.taken,
-        made: f.made + k,
-        state: after,
-        arrived,
-        left,
-        partsteps,
+    if 60 < k {
+        return 5;
     }
+    if taken == 0 {
+        return 10;
+    }
+    if 60 - made < k {
+        return 11;
+    }
+    0
 }
 
 // Runs k steps.
@@ -223,19 +198,11 @@ pub fn run(f: Facility, k: u32) -> Reply
     ) {
         return refuse(f, 9);
     }
-    if k < 1 {
-        return refuse(f, 5);
+    let number = run_refusal(f.taken, f.made, k);
+    if number != 0 {
+        return refuse(f, number);
     }
-    if 60 < k {
-        return refuse(f, 5);
-    }
-    if f.taken == 0 {
-        return refuse(f, 10);
-    }
-    if 60 - f.made < k {
-        return refuse(f, 11);
-    }
-    let g = make_steps(f, k);
+    let g = running::make_steps(f, k);
     Reply {
         refusal: 0,
         offset: 0,
@@ -268,7 +235,7 @@ fn report_at(f: Facility, i: usize) -> SegmentReport
     let road = f.road;
     let state = f.state;
     let cell = state.cells[i];
-    let seg = sheets::segment_at(&road, i);
+    let seg = parts::segment_at(&road, i as u32);
     let level = letters::level_of(cell.n, seg.length, seg.lanes);
     SegmentReport {
         refusal: 0,
@@ -325,7 +292,7 @@ pub fn totals(f: Facility) -> Sums
 
 // Writes the road into a lent buffer from a place.
 pub fn write_road(f: Facility, buffer: &mut [u8], at: usize) -> Written
-    ensures { λ r. ⌜ (writing r ≡ writeRoadOf f (now (buffer .entry)) at) × (now (buffer .exit) ≡ roadBuffer f (now (buffer .entry)) at) ⌝ }
+    ensures { λ r. ⌜ record { answer = writing r; buffer = now (buffer .exit) } ≡ writeRoadOf f (now (buffer .entry)) at ⌝ }
 {
     if !is_sound(f) {
         return Written::Refused(9);
@@ -336,7 +303,7 @@ pub fn write_road(f: Facility, buffer: &mut [u8], at: usize) -> Written
 
 // Writes the period in force into a lent buffer from a place.
 pub fn write_period(f: Facility, buffer: &mut [u8], at: usize) -> Written
-    ensures { λ r. ⌜ (writing r ≡ writePeriodOf f (now (buffer .entry)) at) × (now (buffer .exit) ≡ periodBuffer f (now (buffer .entry)) at) ⌝ }
+    ensures { λ r. ⌜ record { answer = writing r; buffer = now (buffer .exit) } ≡ writePeriodOf f (now (buffer .entry)) at ⌝ }
 {
     if !is_sound(f) {
         return Written::Refused(9);

@@ -1,4 +1,4 @@
--- A choice by a test.
+-- A choice by a test: no rule of document 01, but the form of its every "if".
 use mathlib.Core.Bool.{Bool, true, false}
 
 infixr 5 if_then_else_

@@ -1,8 +1,5 @@
 pub mod Choice
 pub mod Number
 pub mod Field
+pub mod Row
 pub mod Writing
-pub mod Turns
-pub mod Stores
-pub mod Round
-pub mod Refusals

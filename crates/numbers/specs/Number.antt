@@ -1,8 +1,8 @@
 -- Document 01, "Sheets in seven-bit numbers": groups of seven bits, lowest group first, the top bit set on all groups but the last.
 -- At most five groups, value at most 2 ^ 32 - 1, shortest form only.
-use Prim.Native.Nat.{ℕ, zero, suc, _+_, _-_, _*_, _/_, _%_}
+use Prim.Native.Nat.{ℕ, zero, suc, _+_, _-_, _*_, _/_, _%_, _<_}
 use mathlib.Core.List.{List, [], _∷_}
-use lib.ListN.{drop}
+use lib.ListN.{drop, getD}
 use lib.Dec.{ltb}
 use Rattle.numbers.specs.Choice.{if_then_else_}
 use Rattle.numbers.specs.declared.Number.{Number}
@@ -55,3 +55,13 @@ bytesFrom (suc k) v = if ltb v 128 then v ∷ [] else lowGroup v ∷ bytesFrom k
 -- the bytes of the number v
 unfoldable pub numberBytes : ℕ → List ℕ
 numberBytes v = bytesFrom 4 v
+
+-- no rule, but what the reader's loop goes by: groups worth v stand before the place i, the next has the weight sc, and what is read from there
+-- on is put above them
+unfoldable pub above : ℕ → ℕ → ℕ → Reading → Reading
+above v sc i (Read w n) = Read (v + sc * w) (i + n)
+above v sc i (Refused e) = Refused e
+
+-- every element is a byte
+abbrev pub Bytes : List ℕ → Type 0
+Bytes s = (i : ℕ) → getD s i 0 < 256

@@ -1,12 +1,10 @@
--- Document 01: "The writer puts a sheet into a lent buffer from a place that the caller names; bytes outside the written part keep
--- their contents." Said once, of any bytes: a number's, a row's, a sheet's.
-use Prim.Native.Nat.{ℕ, _+_, _≤_, _<_}
+-- Document 01, "Sheets in seven-bit numbers": "The writer puts a sheet into a lent buffer from a place that the caller names; bytes outside
+-- the written part keep their contents." Said once, of any bytes: a number's, a row's, a sheet's.
+use Prim.Native.Nat.{ℕ, _+_}
 use mathlib.Core.Bool.{Bool}
-use mathlib.Core.Path.{_≡_}
 use mathlib.Core.List.{List, _++_}
 use lib.ListN.{length, take, drop}
 use lib.Dec.{leb}
-use borrow.Author.Tests.{le-leb, lt-leb}
 use Rattle.numbers.specs.Choice.{if_then_else_}
 use Rattle.numbers.specs.declared.Written.{Written}
 use Rattle.numbers.specs.declared.Written.the-variants.{Count, Refused as NotWritten}
@@ -21,7 +19,7 @@ abbrev pub writing : Written → Writing
 writing (Count n) = Wrote n
 writing (NotWritten e) = Refused e
 
--- the buffer from the place on is as long as the bytes; false too where the place is past its end
+-- the buffer from the place on is at least as long as the bytes; false too where the place is past its end
 unfoldable pub roomAt : List ℕ → ℕ → List ℕ → Bool
 roomAt buffer at bytes = leb (at + length bytes) (length buffer)
 
@@ -33,13 +31,3 @@ writeAnswer buffer at bytes = if roomAt buffer at bytes then Wrote (length bytes
 unfoldable pub writeInto : List ℕ → ℕ → List ℕ → List ℕ
 writeInto buffer at bytes =
     if roomAt buffer at bytes then (take at buffer ++ bytes ++ drop (at + length bytes) buffer) else buffer
-
-module _ (buffer : List ℕ) (at : ℕ) (bytes : List ℕ) where
-  pub written : at + length bytes ≤ length buffer →
-      (writeAnswer buffer at bytes ≡ Wrote (length bytes)) × (writeInto buffer at bytes ≡ take at buffer ++ bytes ++ drop (at + length bytes) buffer)
-  unfolding roomAt writeAnswer writeInto
-  written h = (rw (le-leb _ _ h), rw (le-leb _ _ h))
-
-  pub no-room : length buffer < at + length bytes → (writeAnswer buffer at bytes ≡ Refused 7) × (writeInto buffer at bytes ≡ buffer)
-  unfolding roomAt writeAnswer writeInto
-  no-room h = (rw (lt-leb _ _ h), rw (lt-leb _ _ h))

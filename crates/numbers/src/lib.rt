@@ -3,8 +3,7 @@ ghost use mathlib.Core.Path.{_≡_};
 ghost use Prim.Native.Nat.{_+_, _*_, _^_, _<_, _≤_};
 ghost use mathlib.Core.List.{_++_};
 ghost use lib.ListN.{drop};
-ghost use Rattle.numbers.specs.Number.{reading, readNumber, last, numberBytes};
-ghost use Rattle.numbers.specs.Turns.{onto};
+ghost use Rattle.numbers.specs.Number.{reading, readNumber, last, numberBytes, above};
 ghost use Rattle.numbers.specs.Field.{readField};
 ghost use Rattle.numbers.specs.Writing.{writing, writeAnswer, writeInto};
 
@@ -30,7 +29,7 @@ pub struct Range {
 // The number with its last group b, of weight scale above the groups so far; refusal 3 where b is below the least that may end it.
 fn finished(value: u32, scale: u32, b: u32, least: u32, at: usize) -> Number
     requires { ⌜ (value + scale * b < 2 ^ 32) × (at + 1 < 2 ^ 64) ⌝ }
-    ensures { λ r. ⌜ reading r ≡ onto value scale at (last least b) ⌝ }
+    ensures { λ r. ⌜ reading r ≡ above value scale at (last least b) ⌝ }
 {
     if b < least {
         return Number::Refused(3);
@@ -130,7 +129,8 @@ fn put(out: &mut [u8], value: u32)
 
 // Writes a number into a lent buffer from a place: refusal 7, and the buffer as it was, where the rest is too short.
 pub fn write(buffer: &mut [u8], at: usize, value: u32) -> Written
-    ensures { λ r. ⌜ (writing r ≡ writeAnswer (now (buffer .entry)) at (numberBytes value)) × (now (buffer .exit) ≡ writeInto (now (buffer .entry)) at (numberBytes value)) ⌝ }
+    ensures { λ r. ⌜ (writing r ≡ writeAnswer (now (buffer .entry)) at (numberBytes value))
+        × (now (buffer .exit) ≡ writeInto (now (buffer .entry)) at (numberBytes value)) ⌝ }
 {
     let n = length(value);
     if buffer.len() < at {

@@ -4,14 +4,14 @@ use mathlib.Core.List.{List}
 use Prim.Native.Nat.{ℕ, _+_, _≤_}
 use native.Mathlib.Nat.{mul-le-mul}
 use native.Mathlib.Numerals.{add-one}
-use Rattle.planning.specs.declared.section.Section.{Section}
+use Rattle.sections.specs.declared.section.Section.{Section}
 use Rattle.planning.specs.declared.facility.Totals.{Totals}
-use Rattle.planning.specs.Section.{Outcome}
-use Rattle.planning.specs.Sheet.{sectionOf}
-use Rattle.planning.specs.Sound.{Sound}
+use Rattle.sections.specs.Section.{Outcome}
+use Rattle.planning_sheet.specs.Sheet.{sectionOf}
+use Rattle.sections.specs.Good.{GoodSection}
 use Rattle.planning.specs.Facility.{areaOf, addedOf, answerAt, totalsOf}
 
-pub area : (s : Section) → Sound s → areaOf s ≤ 211200
+pub area : (s : Section) → GoodSection s → areaOf s ≤ 211200
 area s h = mul-le-mul {n₂ = 26400} {m₂ = 8} (h .short) (h .narrow)
 
 pub totals-more : (n : ℕ) (row demands : List ℕ) (i : ℕ)

@@ -1,8 +1,7 @@
-mod Literals
-mod Rows
-mod Areas
-mod Listed
-mod Turns
-mod Ranges
-mod Sums
-mod Plans
+pub mod Limits
+pub mod Areas
+pub mod Listed
+pub mod Sums
+pub mod Plans
+pub mod Refusals
+pub mod Worked

@@ -23,9 +23,9 @@ module _ {A : Type 0} (g : ℕ → A) where
   first-length i xs h = simp (length-append, length-drop) (omega (arith, length-first i))
 
 -- the list t has the first i values, and v, the next, is stored
-pub stored : {A : Type 0} (g : ℕ → A) (i : ℕ) (xs t : List A) (v : A) → i < length xs → t ≡ first i g ++ drop i xs → v ≡ g i
+pub store-next : {A : Type 0} (g : ℕ → A) (i : ℕ) (xs t : List A) (v : A) → i < length xs → t ≡ first i g ++ drop i xs → v ≡ g i
     → set t i v ≡ first (i + 1) g ++ drop (i + 1) xs
-stored g i xs t v h e w = rw (e, w) (first-more g i xs h)
+store-next g i xs t v h e w = rw (e, w) (first-more g i xs h)
 
 pub drop-replicate : {A : Type 0} (m i : ℕ) (z : A) → drop i (replicate m z) ≡ replicate (m - i) z
 drop-replicate m zero z = rw sub-zero

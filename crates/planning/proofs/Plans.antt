@@ -8,31 +8,31 @@ use lib.Ieee.{Float}
 use lib.ListN.{length, replicate}
 use borrow.Author.Tests.{eq-eqb, ne-eqb}
 use Rattle.numbers.specs.Choice.{if_then_else_}
-use Rattle.planning.specs.declared.sheet.Sheet.{Sheet}
+use Rattle.planning_sheet.specs.declared.SectionsReading.{SectionsReading}
 use Rattle.planning.specs.declared.demand.Demands.{Demands}
 use Rattle.planning.specs.declared.facility.Totals.{Totals}
-use Rattle.planning.specs.Section.{Outcome}
-use Rattle.planning.specs.Sheet.{Reads, Taken, NotTaken, readSheet, sheetOf}
-use Rattle.planning.specs.Sound.{AllSound}
+use Rattle.sections.specs.Section.{Outcome}
+use Rattle.planning_sheet.specs.Sheet.{Reads, Sections, NoSections, readSheet, sectionsReading}
+use Rattle.planning_sheet.specs.Good.{GoodSections}
 use Rattle.planning.specs.Demand.{allWithin, demandsOf, heldDemands}
 use Rattle.planning.specs.Facility.{Letter, letterOf, answersOf, carryoverOf, totalsOf, facilityDensity}
 use Rattle.planning.specs.Plan.{refusedPlan, acceptedPlan, planFrom, planOf}
-use Rattle.planning.proofs.Ranges.{sheet-sound}
+use Rattle.planning_sheet.proofs.Ranges.{sheet-good}
 
 -- ---- the sheet as the code holds it
-taken-is : (x : Reads) (got : Sheet) → got ≡ sheetOf x → got .taken ≡ true → x ≡ Taken (got .count) (got .row) (got .used)
-unfolding sheetOf
-taken-is (Taken n row used) got e t = ap (λ (g : Sheet). Taken (g .count) (g .row) (g .used)) (sym e)
-taken-is (NotTaken x at) got e t =
-    let f : got .taken ≡ false = ap (λ (g : Sheet). g .taken) e in
+taken-is : (x : Reads) (got : SectionsReading) → got ≡ sectionsReading x → got .read ≡ true → x ≡ Sections (got .count) (got .row) (got .used)
+unfolding sectionsReading
+taken-is (Sections n row used) got e t = ap (λ (g : SectionsReading). Sections (g .count) (g .row) (g .used)) (sym e)
+taken-is (NoSections x at) got e t =
+    let f : got .read ≡ false = ap (λ (g : SectionsReading). g .read) e in
     absurd (let z : _≡_ {A = ℕ} 0 1 = cc in omega arith)
 
-refused-is : (x : Reads) (got : Sheet) → got ≡ sheetOf x → got .taken ≡ false → x ≡ NotTaken (got .refusal) (got .offset)
-unfolding sheetOf
-refused-is (Taken n row used) got e t =
-    let f : got .taken ≡ true = ap (λ (g : Sheet). g .taken) e in
+refused-is : (x : Reads) (got : SectionsReading) → got ≡ sectionsReading x → got .read ≡ false → x ≡ NoSections (got .refusal) (got .offset)
+unfolding sectionsReading
+refused-is (Sections n row used) got e t =
+    let f : got .read ≡ true = ap (λ (g : SectionsReading). g .read) e in
     absurd (let z : _≡_ {A = ℕ} 0 1 = cc in omega arith)
-refused-is (NotTaken x at) got e t = ap (λ (g : Sheet). NotTaken (g .refusal) (g .offset)) (sym e)
+refused-is (NoSections x at) got e t = ap (λ (g : SectionsReading). NoSections (g .refusal) (g .offset)) (sym e)
 
 -- ---- the demands as the code holds them
 fit-by : (t : Bool) (ds : List ℕ) (h : Demands) → h ≡ (if t then record { fit = true; each = ds } else record { fit = false; each = replicate 64 0 })
@@ -50,14 +50,14 @@ unfit-by true ds h e f =
 unfit-by false ds h e f = refl
 
 -- ---- the four ways out
-module _ (bytes carryover : List ℕ) (got : Sheet) (e : got ≡ sheetOf (readSheet bytes)) where
-  pub plan-refused : got .taken ≡ false → refusedPlan (got .refusal) (got .offset) carryover ≡ planOf bytes carryover
+module _ (bytes carryover : List ℕ) (got : SectionsReading) (e : got ≡ sectionsReading (readSheet bytes)) where
+  pub plan-refused : got .read ≡ false → refusedPlan (got .refusal) (got .offset) carryover ≡ planOf bytes carryover
   unfolding planOf planFrom
   plan-refused t = rw (refused-is (readSheet bytes) got e t)
 
-  module _ (t : got .taken ≡ true) where
-    pub got-sound : (got .count ≤ 64) × AllSound (got .count) (got .row)
-    got-sound = sheet-sound bytes (got .count) (got .row) (got .used) (taken-is (readSheet bytes) got e t)
+  module _ (t : got .read ≡ true) where
+    pub got-good : (got .count ≤ 64) × GoodSections (got .count) (got .row)
+    got-good = sheet-good bytes (got .count) (got .row) (got .used) (taken-is (readSheet bytes) got e t)
 
     pub plan-length : (length carryover ≡ got .count → ⊥) → refusedPlan 8 0 carryover ≡ planOf bytes carryover
     unfolding planOf planFrom
@@ -67,7 +67,8 @@ module _ (bytes carryover : List ℕ) (got : Sheet) (e : got ≡ sheetOf (readSh
       pub plan-outside : h .fit ≡ false → refusedPlan 15 0 carryover ≡ planOf bytes carryover
       unfolding planOf planFrom heldDemands
       plan-outside f =
-          rw (taken-is (readSheet bytes) got e t, eq-eqb (length carryover) (got .count) same, unfit-by (allWithin (got .count) (got .row) carryover (got .count)) (demandsOf (got .count) (got .row) carryover) h d f)
+          let b = unfit-by (allWithin (got .count) (got .row) carryover (got .count)) (demandsOf (got .count) (got .row) carryover) h d f in
+          rw (taken-is (readSheet bytes) got e t, eq-eqb (length carryover) (got .count) same, b)
 
       pub plan-accepted : h .fit ≡ true → acceptedPlan (got .count) (got .row) (got .used) (h .each) ≡ planOf bytes carryover
       unfolding planOf planFrom heldDemands

@@ -12,11 +12,11 @@ use lib.IntN.{ℤ, pos, negsuc, negℤ, _+ℤ_, _-ℤ_, +ℤ-assoc, +ℤ-comm}
 use lib.ListN.{getD}
 use borrow.Author.Tests.{le-ltb, lt-ltb, le-leb, lt-leb, leb-true}
 use Rattle.numbers.specs.Choice.{if_then_else_}
-use Rattle.planning.specs.declared.section.Section.{Section}
+use Rattle.sections.specs.declared.section.Section.{Section}
 use Rattle.planning.specs.declared.demand.Demand.{Demand}
 use Rattle.planning.specs.declared.demand.Demand.the-variants.{Within, Outside}
-use Rattle.planning.specs.Sheet.{sectionOf}
-use Rattle.planning.specs.Demand.{nextOf, demandOf, within, checkedOf, allWithin, demandAt}
+use Rattle.planning_sheet.specs.Sheet.{sectionOf}
+use Rattle.planning.specs.Demand.{nextOf, demandOf, allowedDemand, checkedOf, allWithin, demandAt}
 
 -- ---- one difference of whole numbers
 less-is : (a b : ℕ) → b ≤ a → pos a -ℤ pos b ≡ pos (a - b)
@@ -59,7 +59,7 @@ outside-by : (d : ℕ) (t : Bool) → leb d 1000000 ≡ t → (if t then Within 
 outside-by d true p e = absurd (let z : _≡_ {A = ℕ} 0 1 = cc in omega arith)
 outside-by d false p e = p
 
-outside-back : (z : ℤ) → checkedOf z ≡ Outside → within z ≡ false
+outside-back : (z : ℤ) → checkedOf z ≡ Outside → allowedDemand z ≡ false
 outside-back (pos d) e = outside-by d (leb d 1000000) refl e
 outside-back (negsuc d) e = refl
 
@@ -101,13 +101,13 @@ module _ (n : ℕ) (row carryover : List ℕ) where
           rw (b .0),
         )
 
-    all-out : (m : ℕ) → i < m → within (demandOf n row carryover (suc i)) ≡ false → allWithin n row carryover m ≡ false
+    all-out : (m : ℕ) → i < m → allowedDemand (demandOf n row carryover (suc i)) ≡ false → allWithin n row carryover m ≡ false
     unfolding allWithin
     all-out zero h o = absurd (not-suc-le-zero h)
     all-out (suc m) h o =
         ⊎-elim
-        (λ (q : i ≡ m). and-false (allWithin n row carryover m) (within (demandOf n row carryover (suc m))) (rw q at o))
-        (λ (l : i < m). and-not (allWithin n row carryover m) (within (demandOf n row carryover (suc m))) (all-out m l o))
+        (λ (q : i ≡ m). and-false (allWithin n row carryover m) (allowedDemand (demandOf n row carryover (suc m))) (rw q at o))
+        (λ (l : i < m). and-not (allWithin n row carryover m) (allowedDemand (demandOf n row carryover (suc m))) (all-out m l o))
         (eq-or-lt-of-le (le-of-suc-le-suc h))
 
     pub sum-out : i < n → r ≡ Outside → allWithin n row carryover n ≡ false

@@ -1,4 +1,4 @@
--- Document 01: "Demand d(i) = d(i - 1) + inflow - outflow + carryover(i), d(0) = 0" (document 000, 25-43).
+-- Document 01, "Planning sheet": "Demand d(i) = d(i - 1) + inflow - outflow + carryover(i), d(0) = 0" (document 000, 25-43).
 use Prim.Native.Nat.{ℕ, zero, suc}
 use mathlib.Core.Bool.{Bool, true, false, _&&_}
 use mathlib.Core.List.{List}
@@ -6,12 +6,12 @@ use lib.Dec.{leb}
 use lib.IntN.{ℤ, pos, negsuc, _+ℤ_, _-ℤ_, natAbs}
 use lib.ListN.{getD, replicate}
 use Rattle.numbers.specs.Choice.{if_then_else_}
-use Rattle.planning.specs.declared.section.Section.{Section}
+use Rattle.sections.specs.declared.section.Section.{Section}
 use Rattle.planning.specs.declared.demand.Demand.{Demand}
 use Rattle.planning.specs.declared.demand.Demand.the-variants.{Within, Outside}
 use Rattle.planning.specs.declared.demand.Demands.{Demands}
 use Rattle.planning.specs.Listing.{filled}
-use Rattle.planning.specs.Sheet.{sectionOf}
+use Rattle.planning_sheet.specs.Sheet.{sectionOf}
 
 -- d(i) from d(i - 1), section i and carryover(i)
 abbrev pub nextOf : ℤ → Section → ℕ → ℤ
@@ -22,20 +22,19 @@ unfoldable pub demandOf : ℕ → List ℕ → List ℕ → ℕ → ℤ
 demandOf n row carryover zero = pos 0
 demandOf n row carryover (suc i) = nextOf (demandOf n row carryover i) (sectionOf n row i) (getD carryover i 0)
 
--- 0 .. 1,000,000
-abbrev pub within : ℤ → Bool
-within (pos d) = leb d 1000000
-within (negsuc d) = false
+-- a demand that a section may have: 0 .. 1,000,000
+abbrev pub allowedDemand : ℤ → Bool
+allowedDemand (pos d) = leb d 1000000
+allowedDemand (negsuc d) = false
 
--- a demand that a section may have
+-- `Within` where a section may have the demand, `Outside` where it is refused by 15
 abbrev pub checkedOf : ℤ → Demand
-checkedOf (pos d) = if leb d 1000000 then Within d else Outside
-checkedOf (negsuc d) = Outside
+checkedOf d = if allowedDemand d then Within (natAbs d) else Outside
 
 -- none of the first i demands is below 0 or above 1,000,000
 unfoldable pub allWithin : ℕ → List ℕ → List ℕ → ℕ → Bool
 allWithin n row carryover zero = true
-allWithin n row carryover (suc i) = allWithin n row carryover i && within (demandOf n row carryover (suc i))
+allWithin n row carryover (suc i) = allWithin n row carryover i && allowedDemand (demandOf n row carryover (suc i))
 
 -- the demand of section i, from 0
 unfoldable pub demandAt : ℕ → List ℕ → List ℕ → ℕ → ℕ

@@ -1,19 +1,19 @@
--- Document 01: "Facility density: the sum of density x (L x lanes) over the sum of L x lanes, sections in order; its letter is by the
--- limits 11, 18, 26, 35, 45, and F if any section is queued" (document 000, Exhibit 25-17, urban).
+-- Document 01, "Planning sheet": "Facility density: the sum of density x (L x lanes) over the sum of L x lanes, sections in order; its
+-- letter is by the limits 11, 18, 26, 35, 45, and F if any section is queued" (document 000, Exhibit 25-17, urban).
 use Prim.Native.Nat.{ℕ, zero, suc, _+_, _*_}
 use mathlib.Core.Bool.{Bool, true, false, _||_}
 use mathlib.Core.List.{List}
 use lib.ListN.{getD}
 use lib.Ieee.{Float, le}
 use Rattle.numbers.specs.Choice.{if_then_else_}
-use Rattle.planning.specs.declared.section.Section.{Section}
+use Rattle.sections.specs.declared.section.Section.{Section}
 use Rattle.planning.specs.declared.facility.Totals.{Totals}
 use Rattle.planning.specs.declared.Done.{Done}
 use Rattle.planning.specs.declared.Service.{Service}
 use Rattle.planning.specs.declared.Service.the-variants as Service
-use Rattle.planning.specs.Real.{real, _⊕_, _⊗_, _⊘_}
-use Rattle.planning.specs.Section.{Outcome, free, slowed, queued, outcome, answerOf, carriedOf, noAnswer}
-use Rattle.planning.specs.Sheet.{sectionOf}
+use Rattle.sections.specs.Real.{real, _⊕_, _⊗_, _⊘_}
+use Rattle.sections.specs.Section.{Outcome, free, slowed, queued, outcome, answerOf, carriedOf, noAnswer}
+use Rattle.planning_sheet.specs.Sheet.{sectionOf}
 use Rattle.planning.specs.Listing.{first, filled}
 
 -- the answer of section i, from 0, under the sections' demands

@@ -1,12 +1,4 @@
 pub mod Listing
-pub mod Real
-pub mod Table
-pub mod Places
-pub mod Section
-pub mod Sheet
-pub mod Sound
 pub mod Demand
 pub mod Facility
 pub mod Plan
-pub mod Refusals
-pub mod Worked

@@ -1,9 +1,9 @@
--- Values one after the other: the section answers, the demands and the new carryover are each a function of the section's place.
+-- Document 01, "Planning sheet": values one after the other. Section answers, demands and the new carryover each go by the section's place.
 use Prim.Native.Nat.{ℕ, zero, suc, _-_}
 use mathlib.Core.List.{List, [], _∷_, _++_}
 use lib.ListN.{replicate}
 
--- g 0, g 1, .. up to n values
+-- g 0 to g (n − 1)
 unfoldable pub first : {A : Type 0} → ℕ → (ℕ → A) → List A
 first zero g = []
 first (suc n) g = first n g ++ (g n ∷ [])

@@ -1,4 +1,4 @@
--- The whole call: from a sheet's bytes and the carryover to every number that it gives back, refused or not.
+-- Document 01, "Planning sheet", the whole call: from a sheet's bytes and the carryover to every number that it gives back, refused or not.
 use Prim.Native.Nat.{ℕ}
 use mathlib.Core.Bool.{not}
 use mathlib.Core.List.{List, map}
@@ -7,9 +7,9 @@ use lib.Ieee.{Float}
 use lib.ListN.{length, replicate}
 use Rattle.numbers.specs.Choice.{if_then_else_}
 use Rattle.planning.specs.declared.Planned.{Planned}
-use Rattle.planning.specs.Real.{real}
-use Rattle.planning.specs.Section.{Outcome, noAnswer}
-use Rattle.planning.specs.Sheet.{Reads, Taken, NotTaken, readSheet}
+use Rattle.sections.specs.Real.{real}
+use Rattle.sections.specs.Section.{Outcome, noAnswer}
+use Rattle.planning_sheet.specs.Sheet.{Reads, Sections, NoSections, readSheet}
 use Rattle.planning.specs.Demand.{allWithin, demandsOf}
 use Rattle.planning.specs.Facility.{Letter, A, letter, letterOf, told, answersOf, carryoverOf, totalsOf, facilityDensity}
 
@@ -66,8 +66,8 @@ acceptedPlan n row used demands =
 
 -- the order of the checks: 1 to 4 field by field; 8, the slice's length isn't the section count; 15, a demand below 0 or above 1,000,000
 unfoldable pub planFrom : Reads → List ℕ → Plan
-planFrom (NotTaken e at) carryover = refusedPlan e at carryover
-planFrom (Taken n row used) carryover =
+planFrom (NoSections e at) carryover = refusedPlan e at carryover
+planFrom (Sections n row used) carryover =
     if not (eqb (length carryover) n) then refusedPlan 8 0 carryover
     else if not (allWithin n row carryover n) then refusedPlan 15 0 carryover
     else acceptedPlan n row used (demandsOf n row carryover)

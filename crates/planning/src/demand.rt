@@ -1,12 +1,12 @@
 // The sections' demands, a running sum that is refused where it leaves 0 .. 1,000,000, and what they leave in the carryover slice.
-use crate::section;
-use crate::section::Section;
-use crate::sheet;
+use sections::section;
+use sections::section::Section;
 ghost use mathlib.Core.Path.{_≡_};
 ghost use Prim.Native.Nat.{_≤_};
 ghost use lib.IntN.{pos};
 ghost use lib.ListN.{length};
-ghost use Rattle.planning.specs.Sound.{Sound, AllSound};
+ghost use Rattle.sections.specs.Good.{GoodSection};
+ghost use Rattle.planning_sheet.specs.Good.{GoodSections};
 ghost use Rattle.planning.specs.Demand.{nextOf, checkedOf, heldDemands};
 ghost use Rattle.planning.specs.Facility.{carryoverOf};
 
@@ -24,7 +24,7 @@ pub struct Demands {
 
 // The demand of a section, from that of the section before it.
 fn next_demand(d: u32, s: Section, carried: u32) -> Demand
-    requires { ⌜ (d ≤ 1000000) × Sound s ⌝ }
+    requires { ⌜ (d ≤ 1000000) × GoodSection s ⌝ }
     ensures { λ r. ⌜ r ≡ checkedOf (nextOf (pos d) s carried) ⌝ }
 {
     let up = d as u64 + s.inflow as u64 + carried as u64;
@@ -40,14 +40,14 @@ fn next_demand(d: u32, s: Section, carried: u32) -> Demand
 
 // The demands of n sections with what is carried over to them.
 pub fn demands_of(n: usize, row: [u32; 384], carryover: &[u32]) -> Demands
-    requires { ⌜ (n ≤ 64) × (length (now carryover) ≡ n) × AllSound n row ⌝ }
+    requires { ⌜ (n ≤ 64) × (length (now carryover) ≡ n) × GoodSections n row ⌝ }
     ensures { λ r. ⌜ r ≡ heldDemands n row (now (carryover .entry)) ⌝ }
 {
     let mut each = [0u32; 64];
     let mut d: u32 = 0;
     let mut i: usize = 0;
     while i < n {
-        let s = sheet::section_at(n, row, i);
+        let s = planning_sheet::section_at(n, row, i);
         let got = next_demand(d, s, carryover[i]);
         match got {
             Demand::Within(next) => {
@@ -69,12 +69,12 @@ pub fn demands_of(n: usize, row: [u32; 384], carryover: &[u32]) -> Demands
 
 // Stores what each of n sections carries over to the next period.
 pub fn carry(n: usize, row: [u32; 384], each: [u32; 64], carryover: &mut [u32])
-    requires { ⌜ (n ≤ 64) × (length (now carryover) ≡ n) × AllSound n row ⌝ }
+    requires { ⌜ (n ≤ 64) × (length (now carryover) ≡ n) × GoodSections n row ⌝ }
     ensures { λ _. ⌜ now (carryover .exit) ≡ carryoverOf n row each ⌝ }
 {
     let mut i: usize = 0;
     while i < n {
-        let s = sheet::section_at(n, row, i);
+        let s = planning_sheet::section_at(n, row, i);
         carryover[i] = section::carried(s, each[i]);
         i += 1;
     }

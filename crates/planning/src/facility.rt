@@ -1,15 +1,15 @@
 // The sections' answers in order, and what they sum up to: the facility's density and its level of service.
-use crate::Answer;
 use crate::Done;
 use crate::Service;
-use crate::section;
-use crate::section::Section;
-use crate::sheet;
+use sections::Answer;
+use sections::section;
+use sections::section::Section;
 ghost use mathlib.Core.Path.{_≡_};
 ghost use mathlib.Core.List.{map};
 ghost use Prim.Native.Nat.{_≤_};
-ghost use Rattle.planning.specs.Section.{outcome};
-ghost use Rattle.planning.specs.Sound.{Sound, AllSound};
+ghost use Rattle.sections.specs.Section.{outcome};
+ghost use Rattle.sections.specs.Good.{GoodSection};
+ghost use Rattle.planning_sheet.specs.Good.{GoodSections};
 ghost use Rattle.planning.specs.Facility.{densityIn, queuedIn, addedOf, answersOf, totalsOf, facilityDensity, letter, letterOf, told};
 
 // Sums over the sections: density times area, area in lane-feet, and whether any is queued.
@@ -68,7 +68,7 @@ fn queued_in(a: Answer) -> bool
 
 // The sums with one more section.
 fn added(t: Totals, s: Section, a: Answer) -> Totals
-    requires { ⌜ (t .area ≤ 13305600) × Sound s ⌝ }
+    requires { ⌜ (t .area ≤ 13305600) × GoodSection s ⌝ }
     ensures { λ r. ⌜ r ≡ addedOf t s (outcome a) ⌝ }
 {
     let area = s.length * s.lanes;
@@ -83,7 +83,7 @@ fn added(t: Totals, s: Section, a: Answer) -> Totals
 
 // The answers of n sections under their demands.
 pub fn solve(n: usize, row: [u32; 384], each: [u32; 64]) -> Solved
-    requires { ⌜ (n ≤ 64) × AllSound n row ⌝ }
+    requires { ⌜ (n ≤ 64) × GoodSections n row ⌝ }
     ensures { λ r. ⌜ (map told (r .answers) ≡ answersOf n row each) × (r .totals ≡ totalsOf n row each n) ⌝ }
 {
     let mut answers = [Done {
@@ -99,7 +99,7 @@ pub fn solve(n: usize, row: [u32; 384], each: [u32; 64]) -> Solved
     };
     let mut i: usize = 0;
     while i < n {
-        let s = sheet::section_at(n, row, i);
+        let s = planning_sheet::section_at(n, row, i);
         let a = section::answer(s, each[i]);
         totals = added(totals, s, a);
         answers[i] = Done { answer: a };

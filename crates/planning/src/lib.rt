@@ -2,35 +2,14 @@
 // level of service, and the carryover of this period.
 mod demand;
 mod facility;
-mod section;
-mod sheet;
-mod table;
 
+use sections::Answer;
 ghost use mathlib.Core.Path.{_≡_};
 ghost use Prim.Native.Nat.{ℕ, _≤_};
 ghost use mathlib.Core.List.{List};
 ghost use lib.ListN.{length};
-ghost use Rattle.planning.specs.Sound.{AllSound};
+ghost use Rattle.planning_sheet.specs.Good.{GoodSections};
 ghost use Rattle.planning.specs.Plan.{planned, refusedPlan, acceptedPlan, planOf};
-
-// A section's answer. Rates are seconds a mile, speed is miles an hour, density is vehicles a mile and lane.
-pub enum Answer {
-    Free {
-        speed: f64,
-        density: f64,
-    },
-    Slowed {
-        under: f64,
-        speed: f64,
-        density: f64,
-    },
-    Queued {
-        under: f64,
-        over: f64,
-        speed: f64,
-        density: f64,
-    },
-}
 
 pub struct Done {
     pub answer: Answer,
@@ -83,7 +62,7 @@ fn accepted(
     each: [u32; 64],
     carryover: &mut [u32],
 ) -> Planned
-    requires { ⌜ (n ≤ 64) × (length (now carryover) ≡ n) × AllSound n row ⌝ }
+    requires { ⌜ (n ≤ 64) × (length (now carryover) ≡ n) × GoodSections n row ⌝ }
     ensures { λ r. ⌜ planned r (now (carryover .exit)) ≡ acceptedPlan n row used each ⌝ }
 {
     let solved = facility::solve(n, row, each);
@@ -106,8 +85,8 @@ fn accepted(
 pub fn plan(bytes: &[u8], carryover: &mut [u32]) -> Planned
     ensures { λ r. ⌜ planned r (now (carryover .exit)) ≡ planOf (now (bytes .entry)) (now (carryover .entry)) ⌝ }
 {
-    let got = sheet::read_sheet(bytes);
-    if !got.taken {
+    let got = planning_sheet::read_sheet(bytes);
+    if !got.read {
         return refused(got.refusal, got.offset);
     }
     let n = got.count;

@@ -1,8 +1,8 @@
 // Plays planning sheets from standard input, one a line: a name, the sheet's bytes in hexadecimal, and the carryover, where `=` is what
 // the sheet before left. Writes each with what it gives: every f64 as the 16 hexadecimal digits of its bits, and a line for each section.
-use planning::Answer;
 use planning::Done;
 use planning::Service;
+use sections::Answer;
 ghost use Prim.Native.Nat.{_≤_, _<_};
 ghost use lib.ListN.{length};
 

@@ -1,5 +1,2 @@
 pub mod Rules
-pub mod Formulas
-pub mod Largest
-pub mod Split
-pub mod Closed
+pub mod Good

@@ -48,7 +48,7 @@ supply e c j q n = min e (min (j - n) (c * (j - n) / (j - q)))
 unfoldable pub rampFlow : (supply lanes mainWish rampWish : ℕ) → ℕ
 rampFlow p n m w = min w (max (p - m) (p / (2 * n)))
 
--- f, mainline flow: the smaller of M and P − r; at the exit, the smaller of M and X (P is X there, and r is zero)
+-- f, mainline flow at the entrance of a segment: the smaller of M and P − r. At the exit there is no P and no r; Step says f there
 unfoldable pub mainFlow : (mainWish supply rampFlow : ℕ) → ℕ
 mainFlow m p r = min m (p - r)
 

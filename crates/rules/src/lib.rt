@@ -6,7 +6,7 @@ ghost use mathlib.Core.Path.{_≡_};
 ghost use Prim.Native.Nat.{ℕ, _*_, _≤_, _<_};
 ghost use Rattle.conditions.specs.Shortcuts.{fullFrom};
 ghost use Rattle.rules.specs.Rules.{wishToLeave, off, through, mostLeaving, rampWish, supply, rampFlow, mainFlow, merge, leaving};
-ghost use Rattle.rules.specs.Split.{GoodSplit};
+ghost use Rattle.rules.specs.Good.{GoodSplit};
 
 // What the split of leaving parts goes by.
 pub struct Split {

@@ -1,12 +1,15 @@
 -- Document 01, "Road sheet" and "Period sheet": how many numbers each has, and the range of each place.
 use Prim.Native.Nat.{ℕ, _+_, _-_, _*_, _%_, min, max}
 use mathlib.Core.List.{List, [], _∷_}
-use lib.ListN.{getD}
+use lib.ListN.{getD, length}
 use lib.Dec.{ltb, eqb}
 use Rattle.numbers.specs.Choice.{if_then_else_}
 use Rattle.numbers.specs.declared.Range.{Range}
 use Rattle.sheets.specs.declared.Layout.{Layout}
 use Rattle.sheets.specs.declared.Layout.the-variants.{Road, Period}
+use Rattle.numbers.specs.Field.{In}
+use Rattle.numbers.specs.Row.{Each}
+use mathlib.Core.Path.{_≡_}
 
 -- low .. high, else refusal 4
 infix 70 _to_
@@ -25,10 +28,11 @@ segmentTable = 300 to 26400 ∷ 1 to 8 ∷ 15 to 85 ∷ 1 to 20000 ∷ 0 to 1000
 abbrev pub roadTable : List Range
 roadTable = 1 to 64 ∷ 100 to 300 ∷ 30 to 60 ∷ 0 to 50 ∷ []
 
+-- the range of each place of a road
 unfoldable pub roadRange : ℕ → Range
 roadRange k = if ltb k 4 then getD roadTable k noRange else getD segmentTable ((k - 4) % 7) noRange
 
--- NS, which is the road's, else refusal 14
+-- NS, which is the road's, else refusal 14; a road whose own NS is outside 1..64 has no period
 abbrev pub sameSegments : ℕ → Range
 sameSegments ns = record { low = max 1 ns; high = min ns 64; refusal = 14 }
 
@@ -45,3 +49,7 @@ rangeOf (Period ns) k = periodRange ns k
 unfoldable pub countOf : Layout → ℕ
 countOf (Road ns) = 4 + 7 * min ns 64
 countOf (Period ns) = 3 + 2 * min ns 64
+
+-- a row of the layout: so many numbers, each in the range of its place
+abbrev pub RowOf : Layout → List ℕ → Type 0
+RowOf l row = (length row ≡ countOf l) × Each (λ k v. In (rangeOf l k) v) 0 row

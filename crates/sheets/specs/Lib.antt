@@ -1,12 +1,3 @@
 pub mod Layout
 pub mod Read
 pub mod Write
-pub mod Parts
-pub mod Allowed
-pub mod Ranges
-pub mod Groups
-pub mod Turns
-pub mod Round
-pub mod Refusals
-pub mod Good
-pub mod Examples

@@ -1,4 +1,4 @@
--- The bytes of a sheet.
+-- Document 01, "Sheets in seven-bit numbers": the bytes of a road or a period sheet.
 use Prim.Native.Nat.{ℕ}
 use mathlib.Core.List.{List, [], _∷_, _++_}
 use lib.ListN.{take, getD}

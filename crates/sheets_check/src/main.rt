@@ -3,7 +3,7 @@
 use numbers::Number;
 use numbers::Written;
 use sheets::Layout;
-use sheets::Sheet;
+use sheets::SheetReading;
 ghost use Prim.Native.Nat.{_+_, _<_, _≤_};
 ghost use lib.ListN.{length};
 
@@ -78,7 +78,7 @@ fn say_written(done: Written, buffer: &[u8], size: usize) {
 }
 
 // A sheet's numbers, or its refusal and offset; a refused one that is not all zeros says so.
-fn say_sheet(sheet: Sheet, count: usize) {
+fn say_sheet(sheet: SheetReading, count: usize) {
     let row = sheet.row;
     if sheet.refusal == 0 {
         io::write_all(1, b"used ");

@@ -1,10 +1,4 @@
-pub mod Place
 pub mod Step
-pub mod CellRow
-pub mod Held
 pub mod Claims
-pub mod Sums
-pub mod Laws
-pub mod Balance
-pub mod Bounds
-pub mod Passing
+pub mod CellRow
+pub mod Bounded

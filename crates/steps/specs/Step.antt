@@ -6,11 +6,11 @@ use mathlib.Core.List.{List}
 use lib.ListN.{getD, replicate, set}
 use lib.Dec.{ltb}
 use Rattle.numbers.specs.Choice.{if_then_else_}
-use Rattle.steps.specs.declared.Cell.{Cell}
+use Rattle.segment.specs.declared.Cell.{Cell}
 use Rattle.rules.specs.declared.Flow.{Flow}
 use Rattle.steps.specs.declared.State.{State}
 use Rattle.conditions.specs.Conditions.{Conditions, inForceAt}
-use Rattle.steps.specs.Place.{onwardOf, queuedOf, rampWishOf, supplyOf, inflowOf, leavingOf, movedOf}
+use Rattle.segment.specs.Place.{onwardOf, queuedOf, rampWishOf, supplyOf, inflowOf, leavingOf, movedOf}
 
 -- a fresh segment, and what stands past the last one
 abbrev pub noCell : Cell
@@ -49,7 +49,7 @@ module _ (c : Conditions) (state : State) where
 
   -- f(i); at the exit the smaller of M and X
   unfoldable pub mainFlowAt : ℕ → ℕ
-  mainFlowAt i = if ltb i (c .segments) then flowAt i .main else min (mainWishAt i) (c .exit)
+  mainFlowAt i = if ltb i (c .segments) then flowAt i .main else min (mainWishAt i) (c .outlet)
 
   -- y(i)
   abbrev pub leavingAt : ℕ → ℕ

@@ -2,11 +2,11 @@
 // A record: a count (2 bytes, low first), the number of steps, and so many bytes: a road sheet and a period sheet.
 use arithmetic::less_wide;
 use letters::Level;
-use steps::Cell;
+use segment::Cell;
 use steps::Ends;
 use steps::State;
 ghost use Prim.Native.Nat.{_<_, _≤_};
-ghost use Rattle.sheets.specs.Good.{GoodRoad, GoodPeriod};
+ghost use Rattle.parts.specs.Good.{GoodRoad, GoodPeriod};
 ghost use Rattle.conditions.specs.Conditions.{segments};
 ghost use Rattle.conditions.specs.Good.{GoodConditions};
 ghost use Rattle.conditions.specs.Row.{conditionsIn, HasShortcuts};
@@ -42,7 +42,7 @@ fn say_cell(number: u64, cell: Cell, level: Level) {
 fn say_cells(road: &[u32; 452], state: State)
     requires { ⌜ segments (now road) ≤ 64 ⌝ }
 {
-    let ns = sheets::globals_of_road(road).segments as usize;
+    let ns = parts::globals_of_road(road).segments as usize;
     let mut i: usize = 0;
     while i < ns {
         let cell = state.cells[i];
@@ -106,8 +106,8 @@ fn play(bytes: &[u8], count: u64)
     if used <= bytes.len() {
         let next = sheets::read_period(&bytes[used..], &road);
         let period = next.row;
-        if sheets::is_road(&road) {
-            if sheets::is_period(&road, &period) {
+        if parts::is_road(&road) {
+            if parts::is_period(&road, &period) {
                 run_under(&road, &period, count);
             }
         }

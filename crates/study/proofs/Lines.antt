@@ -1,5 +1,5 @@
 -- The lines of the listing, from the segment reports: one line, one line more, and all that a book's facility shows.
-use Prim.Native.Nat.{ℕ, _+_, _-_, _<_}
+use Prim.Native.Nat.{ℕ, _+_, _<_}
 use mathlib.Core.Bool.{true}
 use mathlib.Core.Path.{_≡_, sym, ap, _∙_, fun-ext}
 use mathlib.Core.List.{List}
@@ -8,7 +8,7 @@ use native.Mathlib.Omega.{arith}
 use lib.ListN.{length, set}
 use Rattle.conditions.specs.Conditions.{segments}
 use Rattle.steps.specs.Step.{replaced}
-use Rattle.steps.specs.Sums.{length-replaced}
+use Rattle.steps.proofs.Sums.{length-replaced}
 use Rattle.letters.specs.Level.{letterByte}
 use Rattle.door.specs.declared.Facility.{Facility}
 use Rattle.facility.specs.declared.SegmentReport.{SegmentReport}
@@ -16,8 +16,9 @@ use Rattle.door.specs.Sound.{sound}
 use Rattle.facility.specs.Calls.{reportOf}
 use Rattle.facility.specs.Answers.{reportSays}
 use Rattle.facility.specs.Ledger.{Report, Book, answer}
-use Rattle.facility.proofs.Cases.{report-segment, totals-sound}
-use Rattle.facility.proofs.Trail.{Fine}
+use Rattle.facility.proofs.Cases.{report-by, totals-sound}
+use Rattle.facility.proofs.Verdicts.{report-goes}
+use Rattle.facility.proofs.Trail.{KeptBook}
 use Rattle.facility.specs.View.{view}
 use Rattle.facility.proofs.OneCall.{sound-view, reports}
 use Rattle.study.specs.declared.Line.{Line}
@@ -29,7 +30,7 @@ pub line-is : (f : Facility) (i : ℕ) (r : SegmentReport) (b : ℕ) → sound f
     → record { n = r .n; q = r .q; letter = b } ≡ lineAt f i
 unfolding lineAt
 line-is f i r b s h e eb =
-    let told = report-segment f s (i + 1) (omega arith) (omega arith) in
+    let told = report-by f s (i + 1) _ (report-goes (f .road) (i + 1) (omega arith) (omega arith)) in
     rw eb
     (ap (λ (x : SegmentReport). record { n = x .n; q = x .q; letter = letterByte (x .level) }) (e ∙ told)
     ∙ sym (ap (λ (x : SegmentReport). lineOf (reportSays x)) told))
@@ -47,7 +48,7 @@ lines-same : (g h : ℕ → Line) (k : ℕ) → ((i : ℕ) → g i ≡ h i) → 
 lines-same g h k e = ap (λ (x : ℕ → Line). linesBy x k) (fun-ext e)
 
 -- the facility that shows a book shows the book's listing
-pub shows : (b : Book) → Fine b → shown (view b) ≡ listed b
+pub shows : (b : Book) → KeptBook b → shown (view b) ≡ listed b
 unfolding shown listed lineAt
 shows b f =
     let lines =

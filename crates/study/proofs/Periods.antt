@@ -6,24 +6,27 @@ use mathlib.Core.List.{List}
 use native.Mathlib.Omega.{arith}
 use lib.ListN.{length, take, drop, length-drop}
 use lib.Seq.{take-all}
-use lib.Dec.{ltb, eqb}
+use lib.Dec.{leb, ltb}
 use borrow.Author.Tests.{lt-ltb, le-ltb, eq-eqb, ne-eqb}
 use Rattle.numbers.specs.Choice.{if_then_else_}
-use Rattle.sheets.specs.Good.{good-road, read-road-allowed}
-use Rattle.sheets.specs.Read.{Rows, ReadRow, RefusedAt, readRoad, readPeriod, padded}
-use Rattle.sheets.specs.Refusals.{road-refusal}
+use Rattle.parts.proofs.Good.{good-road, read-road-allowed}
+use Rattle.numbers.specs.Row.{Rows, ReadRow, RefusedAt}
+use Rattle.sheets.specs.Read.{readRoad, readPeriod, padded}
+use Rattle.sheets.proofs.Refusals.{road-refusal}
 use Rattle.conditions.specs.Conditions.{segments}
 use Rattle.door.specs.declared.Facility.{Facility}
 use Rattle.facility.specs.declared.Reply.{Reply}
 use Rattle.door.specs.Sound.{sound}
 use Rattle.facility.specs.Calls.{laidBy, layOf, takeOf, runOf}
-use Rattle.facility.specs.Ledger.{Take, Run, Answer, Refused, Taken, Ran, Reported, Summed, withSteps, Book, opened, read, withRow, running, full, answer, after}
+use Rattle.facility.specs.Ledger.{Take, Run, Answer, Refused, Taken, Ran, Reported, Summed, Book, opened, takenAs, withRow, ranAs, withRun, answer, after}
+use Rattle.facility.specs.Verdicts.{Verdict, GoesOn, unfinished, takeVerdict, runVerdict}
+use Rattle.facility.proofs.Verdicts.{run-goes}
 use Rattle.facility.specs.View.{view}
 use Rattle.facility.specs.Answers.{takeSays}
-use Rattle.facility.proofs.Trail.{Fine, fine-opened, fine-after}
+use Rattle.facility.proofs.Trail.{KeptBook, kept-opened, kept-after}
 use Rattle.facility.proofs.OneCall.{view-opened, sound-view, takes, runs}
 use Rattle.facility.proofs.Lists.{run-keeps}
-use Rattle.study.specs.Forecast.{listed, refusedAt, afterSheet, whole, wholePeriod, periods, onRoad, forecastOf}
+use Rattle.study.specs.Forecast.{listed, refusedListing, afterSheet, whole, wholePeriod, periods, onRoad, forecastOf}
 use Rattle.study.specs.Shown.{shown}
 use Rattle.study.proofs.Within.{RowWithin, road-within, period-within}
 use Rattle.study.proofs.Lines.{shows}
@@ -37,97 +40,96 @@ AnswerWithin m Ran = 0 ≤ m
 AnswerWithin m (Reported figures level) = 0 ≤ m
 AnswerWithin m (Summed arrived left stored partsteps) = 0 ≤ m
 
-read-within : (m : ℕ) (r : Rows) → RowWithin m r → AnswerWithin m (read r)
+read-within : (m : ℕ) (r : Rows) → RowWithin m r → AnswerWithin m (takenAs r)
 read-within m (ReadRow row used) h = h
 read-within m (RefusedAt number offset) h = h
 
-take-within-by : (m : ℕ) (r : Rows) (x y : Bool) → RowWithin m r → AnswerWithin m (if x then Refused 12 0 else if y then Refused 13 0 else read r)
-take-within-by m r true y h = omega arith
-take-within-by m r false true h = omega arith
-take-within-by m r false false h = read-within m r h
+verdict-within : (m : ℕ) (r : Rows) (x y : Bool) → RowWithin m r → RowWithin m (if x then RefusedAt 12 0 else if y then RefusedAt 13 0 else r)
+verdict-within m r true y h = omega arith
+verdict-within m r false true h = omega arith
+verdict-within m r false false h = h
 
 take-within : (b : Book) (s : List ℕ) → AnswerWithin (length s) (answer b (Take s))
-take-within b s = take-within-by (length s) (readPeriod (b .road) s) (running b) (full b) (period-within (b .road) s)
+unfolding takeVerdict
+take-within b s =
+    read-within (length s) (takeVerdict (b .road) (b .taken) (b .made) s)
+    (verdict-within (length s) (readPeriod (b .road) s) (unfinished (b .taken) (b .made)) (leb 96 (b .taken)) (period-within (b .road) s))
 
 -- a sheet that is taken is counted, with no step made under it
 Begun : Book → Book → Type 0
 Begun b next = (next .taken ≡ b .taken + 1) × (next .made ≡ 0)
 
-begun-row : (b : Book) (r : Rows) (used : ℕ) → read r ≡ Taken used → Begun b (withRow b r)
+begun-row : (b : Book) (r : Rows) (used : ℕ) → takenAs r ≡ Taken used → Begun b (withRow b r)
 unfolding Begun
 begun-row b (ReadRow row n) used e = (refl, refl)
 begun-row b (RefusedAt number offset) used e = absurd (let z : _≡_ {A = ℕ} 0 1 = cc in omega arith)
 
-begun-by : (b : Book) (r : Rows) (used : ℕ) (x y : Bool) → (if x then Refused 12 0 else if y then Refused 13 0 else read r) ≡ Taken used
-    → Begun b (if x then b else if y then b else withRow b r)
-begun-by b r used true y e = absurd (let z : _≡_ {A = ℕ} 0 1 = cc in omega arith)
-begun-by b r used false true e = absurd (let z : _≡_ {A = ℕ} 0 1 = cc in omega arith)
-begun-by b r used false false e = begun-row b r used e
-
-begun : (b : Book) (s : List ℕ) (used : ℕ) → answer b (Take s) ≡ Taken used → Begun b (after b (Take s))
-begun b s used e = begun-by b (readPeriod (b .road) s) used (running b) (full b) e
-
--- "runs every period whole": right after a sheet is taken, a run of the period's steps is never refused
-pub run-whole : (b : Book) (s : List ℕ) (used : ℕ) → answer b (Take s) ≡ Taken used → answer (after b (Take s)) (Run whole) ≡ Ran
-unfolding Begun
-run-whole b s used e =
-    let next = after b (Take s) in
-    let g = begun b s used e in
-    rw (ne-eqb (next .taken) 0 (λ z. omega (arith, g .0)), le-ltb (60 - next .made) whole (omega (arith, g .1)))
-
--- and after it no step is left, so that no taking of a study is refused by 12
 and-false : (t : Bool) → (t && false) ≡ false
 and-false true = refl
 and-false false = refl
 
-run-out-by : (b c : Book) (x y : Bool) → x ≡ false → y ≡ false → 60 ≤ c .made → running (if x then b else if y then b else c) ≡ false
-run-out-by b c x y p q h = rw (p, q, le-ltb (c .made) 60 h) (and-false (ltb 0 (c .taken)))
+finished : (taken made : ℕ) → 60 ≤ made → unfinished taken made ≡ false
+unfolding unfinished
+finished taken made h = rw (le-ltb made 60 h) (and-false (ltb 0 taken))
 
-run-out : (b : Book) (s : List ℕ) (used : ℕ) → answer b (Take s) ≡ Taken used → running (wholePeriod b s) ≡ false
-unfolding Begun
-run-out b s used e =
-    let next = after b (Take s) in
-    let g = begun b s used e in
-    run-out-by next (withSteps whole next) (eqb (next .taken) 0) (ltb (60 - next .made) whole)
-    (ne-eqb (next .taken) 0 (λ z. omega (arith, g .0))) (le-ltb (60 - next .made) whole (omega (arith, g .1))) (omega arith)
+module _ (b : Book) (s : List ℕ) (used : ℕ) (e : answer b (Take s) ≡ Taken used) where
+  begun : Begun b (after b (Take s))
+  begun = begun-row b (takeVerdict (b .road) (b .taken) (b .made) s) used e
+
+  -- "runs every period whole": right after a sheet is taken, a run of the period's steps is never refused
+  goes-whole : runVerdict (after b (Take s) .taken) (after b (Take s) .made) whole ≡ GoesOn
+  unfolding Begun
+  goes-whole = run-goes _ _ whole (omega arith) (omega arith) (λ z. omega (arith, begun .0)) (omega (arith, begun .1))
+
+  pub run-whole : answer (after b (Take s)) (Run whole) ≡ Ran
+  run-whole = ap ranAs goes-whole
+
+  -- and after it no step is left, so that no taking of a study is refused by 12
+  run-out : unfinished (wholePeriod b s .taken) (wholePeriod b s .made) ≡ false
+  run-out =
+      let next = after b (Take s) in
+      ap (λ (v : Verdict). unfinished (withRun next whole v .taken) (withRun next whole v .made)) goes-whole
+      ∙ finished (next .taken) (next .made + whole) (omega arith)
 
 -- ---- a study on its way, at a place of its bytes
-pub record Playing (bytes : List ℕ) (f : Facility) (at : ℕ) : Type 0 where
+pub record Turn (bytes : List ℕ) (f : Facility) (at : ℕ) : Type 0 where
   pub book : Book
-  pub fine : Fine book
+  pub kept : KeptBook book
   pub view : f ≡ view book
-  pub idle : running book ≡ false
+  pub idle : unfinished (book .taken) (book .made) ≡ false
   pub most : ℕ
   pub count : most + book .taken ≡ 97
-  pub within : at ≤ length bytes
+  pub up-to : at ≤ length bytes
   pub rest : forecastOf bytes ≡ periods most book bytes at
 
-laid-by : (bytes : List ℕ) (r : Rows) → readRoad bytes ≡ r → (laid : Reply) → laid ≡ laidBy r → laid .refusal ≡ 0 → Playing bytes (laid .facility) (laid .used)
-unfolding forecastOf
+laid-by : (bytes : List ℕ) (r : Rows) → readRoad bytes ≡ r → (laid : Reply) → laid ≡ laidBy r → laid .refusal ≡ 0 → Turn bytes (laid .facility) (laid .used)
+unfolding forecastOf unfinished
 laid-by bytes (ReadRow row used) e laid is z =
     let end : laid .used ≡ used = ap (λ (q : Reply). q .used) is in
     record {
       book = opened (padded row);
-      fine = fine-opened (padded row) (read-road-allowed bytes row used e);
+      kept = kept-opened (padded row) (read-road-allowed bytes row used e);
       view = ap (λ (q : Reply). q .facility) is ∙ view-opened (padded row);
       idle = refl;
       most = 97;
       count = refl;
-      within = omega (arith, rw e at (road-within bytes));
+      up-to = omega (arith, rw e at (road-within bytes));
       rest = ap (onRoad bytes) e ∙ ap (periods 97 (opened (padded row)) bytes) (sym end);
     }
 laid-by bytes (RefusedAt number offset) e laid is z = absurd (omega (arith, road-refusal bytes number offset e, ap (λ (q : Reply). q .refusal) is))
 
 -- a road that was laid starts the study; one that was not is its answer
-pub begins : (bytes : List ℕ) (laid : Reply) → laid ≡ layOf bytes → laid .refusal ≡ 0 → Playing bytes (laid .facility) (laid .used)
+pub begins : (bytes : List ℕ) (laid : Reply) → laid ≡ layOf bytes → laid .refusal ≡ 0 → Turn bytes (laid .facility) (laid .used)
 unfolding layOf
 begins bytes laid is z = laid-by bytes (readRoad bytes) refl laid is z
 
-not-laid-by : (bytes : List ℕ) (r : Rows) (laid : Reply) → laid ≡ laidBy r → (laid .refusal ≡ 0 → ⊥) → refusedAt (laid .refusal) (laid .offset) ≡ onRoad bytes r
+not-laid-by : (bytes : List ℕ) (r : Rows) (laid : Reply) → laid ≡ laidBy r → (laid .refusal ≡ 0 → ⊥)
+    → refusedListing (laid .refusal) (laid .offset) ≡ onRoad bytes r
 not-laid-by bytes (ReadRow row used) laid is n = absurd (n (ap (λ (q : Reply). q .refusal) is))
-not-laid-by bytes (RefusedAt number offset) laid is n = ap (λ (q : Reply). refusedAt (q .refusal) (q .offset)) is
+not-laid-by bytes (RefusedAt number offset) laid is n = ap (λ (q : Reply). refusedListing (q .refusal) (q .offset)) is
 
-pub not-begun : (bytes : List ℕ) (laid : Reply) → laid ≡ layOf bytes → (laid .refusal ≡ 0 → ⊥) → refusedAt (laid .refusal) (laid .offset) ≡ forecastOf bytes
+pub not-begun : (bytes : List ℕ) (laid : Reply) → laid ≡ layOf bytes → (laid .refusal ≡ 0 → ⊥)
+    → refusedListing (laid .refusal) (laid .offset) ≡ forecastOf bytes
 unfolding layOf forecastOf
 not-begun bytes laid is n = not-laid-by bytes (readRoad bytes) laid is n
 
@@ -151,13 +153,13 @@ unfolding periods
 end-by zero b bytes at h = refl
 end-by (suc most) b bytes at h = rw (le-ltb at (length bytes) h)
 
-module _ (bytes : List ℕ) (f : Facility) (at : ℕ) (p : Playing bytes f at) where
-  pub playing-sound : (sound f ≡ true) × (segments (f .road) ≤ 64)
-  playing-sound = rw (p .view) (sound-view (p .book) (p .fine), good-road (p .book .road) (p .fine .road) .segments .1)
+module _ (bytes : List ℕ) (f : Facility) (at : ℕ) (p : Turn bytes f at) where
+  pub turn-sound : (sound f ≡ true) × (segments (f .road) ≤ 64)
+  turn-sound = rw (p .view) (sound-view (p .book) (p .kept), good-road (p .book .road) (p .kept .road) .segments .1)
 
   -- the end of the file
   pub ends : length bytes ≤ at → shown f ≡ forecastOf bytes
-  ends h = rw (p .view) (shows (p .book) (p .fine) ∙ sym (end-by (p .most) (p .book) bytes at h) ∙ sym (p .rest))
+  ends h = rw (p .view) (shows (p .book) (p .kept) ∙ sym (end-by (p .most) (p .book) bytes at h) ∙ sym (p .rest))
 
   -- a sheet that the bytes from the place on give
   module _ (inside : at < length bytes) (r : Reply) (gave : r ≡ takeOf f (drop at bytes)) where
@@ -165,11 +167,11 @@ module _ (bytes : List ℕ) (f : Facility) (at : ℕ) (p : Playing bytes f at) w
     took = gave ∙ ap (λ (g : Facility). takeOf g (drop at bytes)) (p .view)
 
     said : takeSays r ≡ answer (p .book) (Take (drop at bytes))
-    said = ap takeSays took ∙ takes (p .book) (drop at bytes) (p .fine) .0
+    said = ap takeSays took ∙ takes (p .book) (drop at bytes) (p .kept) .0
 
     told : forecastOf bytes ≡ afterSheet (takeSays r) at (periods (p .most - 1) (wholePeriod (p .book) (drop at bytes)) bytes)
     told =
-        p .rest ∙ sheet-by (p .most) (p .book) bytes at (omega (arith, p .count, p .fine .few)) inside
+        p .rest ∙ sheet-by (p .most) (p .book) bytes at (omega (arith, p .count, p .kept .few)) inside
         ∙ ap (λ (a : Answer). afterSheet a at (periods (p .most - 1) (wholePeriod (p .book) (drop at bytes)) bytes)) (sym said)
 
     said-within : AnswerWithin (length bytes - at) (takeSays r)
@@ -180,7 +182,7 @@ module _ (bytes : List ℕ) (f : Facility) (at : ℕ) (p : Playing bytes f at) w
       pub place-within : at + r .offset ≤ length bytes
       place-within = omega (arith, rw (ne-eqb (r .refusal) 0 n) at said-within)
 
-      pub refuses : refusedAt (r .refusal) (at + r .offset) ≡ forecastOf bytes
+      pub refuses : refusedListing (r .refusal) (at + r .offset) ≡ forecastOf bytes
       refuses = sym (rw (ne-eqb (r .refusal) 0 n) at told)
 
     module _ (z : r .refusal ≡ 0) where
@@ -195,9 +197,9 @@ module _ (bytes : List ℕ) (f : Facility) (at : ℕ) (p : Playing bytes f at) w
         view-next : ran .facility ≡ view (wholePeriod (p .book) (drop at bytes))
         view-next =
             let b = after (p .book) (Take (drop at bytes)) in
-            let begins : r .facility ≡ view b = ap (λ (q : Reply). q .facility) took ∙ takes (p .book) (drop at bytes) (p .fine) .1 in
+            let begins : r .facility ≡ view b = ap (λ (q : Reply). q .facility) took ∙ takes (p .book) (drop at bytes) (p .kept) .1 in
             ap (λ (q : Reply). q .facility) (runs-it ∙ ap (λ (g : Facility). runOf g whole) begins)
-            ∙ runs b whole (fine-after (p .book) (Take (drop at bytes)) (p .fine)) .1
+            ∙ runs b whole (kept-after (p .book) (Take (drop at bytes)) (p .kept)) .1
 
         taken-next : wholePeriod (p .book) (drop at bytes) .taken ≡ p .book .taken + 1
         unfolding Begun
@@ -207,17 +209,17 @@ module _ (bytes : List ℕ) (f : Facility) (at : ℕ) (p : Playing bytes f at) w
         one-taken =
             ap (λ (g : Facility). g .taken) view-next ∙ taken-next ∙ ap (λ (g : Facility). g .taken + 1) (sym (p .view))
 
-        pub goes-on : Playing bytes (ran .facility) (at + r .used)
+        pub goes-on : Turn bytes (ran .facility) (at + r .used)
         goes-on = record {
           book = wholePeriod (p .book) (drop at bytes);
-          fine = fine-after (after (p .book) (Take (drop at bytes))) (Run whole) (fine-after (p .book) (Take (drop at bytes)) (p .fine));
+          kept = kept-after (after (p .book) (Take (drop at bytes))) (Run whole) (kept-after (p .book) (Take (drop at bytes)) (p .kept));
           view = view-next;
           idle = run-out (p .book) (drop at bytes) (r .used) taken;
           most = p .most - 1;
-          count = omega (arith, p .count, p .fine .few, taken-next);
-          within = next-within;
+          count = omega (arith, p .count, p .kept .few, taken-next);
+          up-to = next-within;
           rest = rw (eq-eqb (r .refusal) 0 z) at told;
         }
 
   pub few-taken : f .taken ≤ 96
-  few-taken = rw (p .view) (p .fine .few)
+  few-taken = rw (p .view) (p .kept .few)

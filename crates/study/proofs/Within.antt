@@ -12,7 +12,8 @@ use Rattle.numbers.specs.Field.{inRange, readField}
 use Rattle.sheets.specs.declared.Layout.{Layout}
 use Rattle.sheets.specs.declared.Layout.the-variants.{Road, Period}
 use Rattle.sheets.specs.Layout.{roadRange, rangeOf, countOf}
-use Rattle.sheets.specs.Read.{Rows, ReadRow, RefusedAt, onto, andThen, fields, readRow, roadFrom, readRoad, readPeriod}
+use Rattle.numbers.specs.Row.{Rows, ReadRow, RefusedAt, onto, andThen, fields}
+use Rattle.sheets.specs.Read.{fieldOf, readRow, roadFrom, readRoad, readPeriod}
 
 -- the place after a number that was read is at most m
 abbrev Within : ℕ → Reading → Type 0
@@ -74,16 +75,20 @@ unfolding andThen
 then-within m at (Read v n) rest l h q = onto-within m (v ∷ []) (rest n) (q n h)
 then-within m at (Refused e) rest l h q = l
 
-fields-within : (l : Layout) (left k : ℕ) (s : List ℕ) (at : ℕ) → at ≤ length s → RowWithin (length s) (fields l left k s at)
+fields-within : (l : Layout) (s : List ℕ) (left k at : ℕ) → at ≤ length s → RowWithin (length s) (fields (fieldOf l s) left k at)
 unfolding fields
-fields-within l zero k s at h = h
-fields-within l (suc left) k s at h =
-    then-within (length s) at (readField (rangeOf l k) s at) (fields l left (k + 1) s) h (field-within (rangeOf l k) s at h)
-    (λ n. fields-within l left (k + 1) s n)
+fields-within l s zero k at h = h
+fields-within l s (suc left) k at h =
+    then-within (length s) at (fieldOf l s k at) (fields (fieldOf l s) left (k + 1)) h (field-within (rangeOf l k) s at h)
+    (λ n. fields-within l s left (k + 1) n)
+
+row-within : (l : Layout) (s : List ℕ) → RowWithin (length s) (readRow l s)
+unfolding readRow
+row-within l s = fields-within l s (countOf l) 0 0 (omega arith)
 
 from-within : (s : List ℕ) (x : Reading) → RowWithin (length s) (roadFrom s x)
-unfolding roadFrom readRow
-from-within s (Read ns n) = fields-within (Road ns) (countOf (Road ns)) 0 s 0 (omega arith)
+unfolding roadFrom
+from-within s (Read ns n) = row-within (Road ns) s
 from-within s (Refused e) = omega arith
 
 pub road-within : (s : List ℕ) → RowWithin (length s) (readRoad s)
@@ -91,5 +96,5 @@ unfolding readRoad
 road-within s = from-within s (readField (roadRange 0) s 0)
 
 pub period-within : (road s : List ℕ) → RowWithin (length s) (readPeriod road s)
-unfolding readPeriod readRow
-period-within road s = fields-within (Period (getD road 0 0)) (countOf (Period (getD road 0 0))) 0 s 0 (omega arith)
+unfolding readPeriod
+period-within road s = row-within (Period (getD road 0 0)) s

@@ -1,10 +1,12 @@
--- Document 01, "The program forecast": a whole study, from the bytes of its file to what the listing shows, by the ledger alone.
+-- Document 01, "Merges, splits and a worked study", the program `forecast`: a whole study, from the bytes of its file to what the listing
+-- shows, by the ledger alone.
 use Prim.Native.Nat.{ℕ, zero, suc, _+_}
 use mathlib.Core.List.{List}
 use lib.ListN.{length, drop, replicate}
 use lib.Dec.{ltb}
 use Rattle.numbers.specs.Choice.{if_then_else_}
-use Rattle.sheets.specs.Read.{Rows, ReadRow, RefusedAt, readRoad, padded}
+use Rattle.numbers.specs.Row.{Rows, ReadRow, RefusedAt}
+use Rattle.sheets.specs.Read.{readRoad, padded}
 use Rattle.conditions.specs.Conditions.{segments}
 use Rattle.steps.specs.Step.{replaced, storedOf}
 use Rattle.letters.specs.Level.{letterByte}
@@ -43,8 +45,8 @@ listed b = record {
 }
 
 -- "a refused study prints only refused, the number and the place in the file"
-unfoldable pub refusedAt : (number place : ℕ) → Listing
-refusedAt number place = record {
+unfoldable pub refusedListing : (number place : ℕ) → Listing
+refusedListing number place = record {
   refusal = number;
   place = place;
   segments = 0;
@@ -59,7 +61,7 @@ refusedAt number place = record {
 -- a sheet that starts at a place of the file: taken, on from where it ended; refused, "the sheet's start plus the refusal's offset"
 abbrev pub afterSheet : Answer → ℕ → (ℕ → Listing) → Listing
 afterSheet (Taken used) at on = on (at + used)
-afterSheet (Refused number offset) at on = refusedAt number (at + offset)
+afterSheet (Refused number offset) at on = refusedListing number (at + offset)
 afterSheet Ran at on = on at
 afterSheet (Reported figures level) at on = on at
 afterSheet (Summed arrived left stored partsteps) at on = on at
@@ -83,7 +85,7 @@ periods (suc most) b bytes at =
 -- "the period part starts wherever the road part ended". The 97th sheet is always refused, by 13, so that no more are looked at
 abbrev pub onRoad : List ℕ → Rows → Listing
 onRoad bytes (ReadRow row used) = periods 97 (opened (padded row)) bytes used
-onRoad bytes (RefusedAt number offset) = refusedAt number offset
+onRoad bytes (RefusedAt number offset) = refusedListing number offset
 
 -- the forecast of a study
 unfoldable pub forecastOf : List ℕ → Listing

@@ -1,4 +1,3 @@
 pub mod Forecast
 pub mod Shown
 pub mod Export
-pub mod Starred

@@ -1,4 +1,5 @@
--- What a facility shows by its totals and its segment reports, as the listing has it.
+-- What a facility shows by its totals and its segment reports, as the listing has it: no rule of document 01, but what the inner
+-- functions of a forecast promise.
 use Prim.Native.Nat.{ℕ, _+_}
 use Rattle.conditions.specs.Conditions.{segments}
 use Rattle.door.specs.declared.Facility.{Facility}

@@ -9,8 +9,8 @@ ghost use lib.ListN.{length, take, drop, set};
 ghost use Rattle.conditions.specs.Conditions.{segments};
 ghost use Rattle.letters.specs.Level.{letterByte};
 ghost use Rattle.door.specs.Sound.{sound};
-ghost use Rattle.study.specs.Forecast.{linesBy, refusedAt, forecastOf};
-ghost use Rattle.study.specs.Export.{lineNumbers, numbersOf, exportAnswer, exportInto};
+ghost use Rattle.study.specs.Forecast.{linesBy, refusedListing, forecastOf};
+ghost use Rattle.study.specs.Export.{lineNumbers, listingNumbers, exportAnswer, exportInto};
 ghost use Rattle.study.specs.Shown.{lineAt, shown};
 
 // A segment's line of the listing: n, q and the byte of the level letter.
@@ -47,7 +47,7 @@ fn letter_byte(level: Level) -> u8
 }
 
 fn refused_at(number: u8, place: usize) -> Listing
-    ensures { λ r. ⌜ r ≡ refusedAt number place ⌝ }
+    ensures { λ r. ⌜ r ≡ refusedListing number place ⌝ }
 {
     let none = Line {
         n: 0,
@@ -162,7 +162,7 @@ fn wide_byte(x: u8) -> u64
 // Puts the refusal, NS, the totals and o, the first eight numbers.
 fn put_totals(x: Listing, out: &mut [u64])
     requires { ⌜ 200 ≤ length (now out) ⌝ }
-    ensures { λ r. ⌜ now (out .exit) ≡ take 8 (numbersOf x) ++ drop 8 (now (out .entry)) ⌝ }
+    ensures { λ r. ⌜ now (out .exit) ≡ take 8 (listingNumbers x) ++ drop 8 (now (out .entry)) ⌝ }
 {
     out[0] = wide_byte(x.refusal);
     out[1] = x.place as u64;

@@ -10,7 +10,8 @@ use borrow.Author.Tests.{leb-true}
 use Rattle.numbers.specs.Choice.{if_then_else_}
 use Rattle.numbers.specs.Writing.{Wrote, Refused, roomAt, writeAnswer}
 
-within-by : (buffer bytes : List ℕ) (at n : ℕ) (t : Bool) → leb (at + length bytes) (length buffer) ≡ t → Wrote n ≡ (if t then Wrote (length bytes) else Refused 7) → at + n ≤ length buffer
+within-by : (buffer bytes : List ℕ) (at n : ℕ) (t : Bool) → leb (at + length bytes) (length buffer) ≡ t
+    → Wrote n ≡ (if t then Wrote (length bytes) else Refused 7) → at + n ≤ length buffer
 within-by buffer bytes at n true e w =
     let same : n ≡ length bytes = cc in
     omega (arith, leb-true (at + length bytes) (length buffer) e)

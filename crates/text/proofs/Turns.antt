@@ -12,7 +12,7 @@ use borrow.Author.Tests.{le-leb, lt-leb, le-ltb, lt-ltb, leb-true}
 use Rattle.text.specs.declared.Token.{Token}
 use Rattle.text.specs.declared.Token.the-variants.{Number, End, Bad}
 use Rattle.text.specs.declared.Checked.the-variants.{Fine, Wrong}
-use Rattle.text.specs.Text.{isDigit, isBlank, opens, skipFrom, digitsFrom, startAt, tokenAt, Said, Numbers, BadAt, onto, andThen, numbersFrom, numbersOf, checkedAs}
+use Rattle.text.specs.Text.{isDigit, isBlank, opens, skipFrom, digitsFrom, startAt, tokenAt, Said, Numbers, BadAt, withNumber, tokenThen, numbersFrom, numbersIn, checkedAs}
 
 at-end : (s : List ℕ) (i : ℕ) → length s ≤ i → drop i s ≡ []
 at-end s i h = drop-of-length-le s h
@@ -26,7 +26,8 @@ module _ (s : List ℕ) (i : ℕ) (inside : Bool) where
   unfolding skipFrom
   skip-stop h e = rw (drop-cons s i 0 h, e)
 
-  pub skip-more : i < length s → isBlank inside (getD s i 0) ≡ true → skipFrom inside i (drop i s) ≡ skipFrom (opens inside (getD s i 0)) (i + 1) (drop (i + 1) s)
+  pub skip-more : i < length s → isBlank inside (getD s i 0) ≡ true
+      → skipFrom inside i (drop i s) ≡ skipFrom (opens inside (getD s i 0)) (i + 1) (drop (i + 1) s)
   unfolding skipFrom
   skip-more h e = rw (drop-cons s i 0 h, e, add-one i)
 
@@ -78,28 +79,28 @@ module _ (s : List ℕ) (at : ℕ) where
     token-number h e = rw (← skips, lt-ltb start (length s) h, e)
 
 -- ---- the whole text
-from-by : (most : ℕ) (s : List ℕ) (at : ℕ) → 0 < most → numbersFrom most s at ≡ andThen (tokenAt s at) (numbersFrom (most - 1) s)
+from-by : (most : ℕ) (s : List ℕ) (at : ℕ) → 0 < most → numbersFrom most s at ≡ tokenThen (tokenAt s at) (numbersFrom (most - 1) s)
 unfolding numbersFrom
 from-by zero s at h = absurd (omega arith)
 from-by (suc most) s at h =
     let less : most ≡ suc most - 1 = omega arith in
-    ap (λ (m : ℕ). andThen (tokenAt s at) (numbersFrom m s)) less
+    ap (λ (m : ℕ). tokenThen (tokenAt s at) (numbersFrom m s)) less
 
-one-more : (count v : ℕ) (x : Said) → checkedAs count (onto v x) ≡ checkedAs (count + 1) x
+one-more : (count v : ℕ) (x : Said) → checkedAs count (withNumber v x) ≡ checkedAs (count + 1) x
 one-more count v (Numbers vs) = ap Fine (omega arith)
 one-more count v (BadAt i) = refl
 
 -- the text is checked up to a place, with so many numbers before it
 abbrev pub Rest : List ℕ → ℕ → ℕ → Type 0
-Rest s count at = (count ≤ length s + 1) × (checkedAs 0 (numbersOf s) ≡ checkedAs count (numbersFrom (length s + 1 - count) s at))
+Rest s count at = (count ≤ length s + 1) × (checkedAs 0 (numbersIn s) ≡ checkedAs count (numbersFrom (length s + 1 - count) s at))
 
 pub rest-all : (s : List ℕ) → Rest s 0 0
-unfolding numbersOf
+unfolding numbersIn
 rest-all s =
     let e : length s + 1 ≡ length s + 1 - 0 = omega arith in
     (omega arith, ap (λ (m : ℕ). checkedAs 0 (numbersFrom m s 0)) e)
 
-pub rest-none : (s : List ℕ) (count at : ℕ) → Rest s count at → length s < count → Fine count ≡ checkedAs 0 (numbersOf s)
+pub rest-none : (s : List ℕ) (count at : ℕ) → Rest s count at → length s < count → Fine count ≡ checkedAs 0 (numbersIn s)
 unfolding numbersFrom
 rest-none s count at r h =
     let e : length s + 1 - count ≡ 0 = omega (arith, r .0) in
@@ -107,19 +108,21 @@ rest-none s count at r h =
     sym (r .1 ∙ ap (λ (m : ℕ). checkedAs count (numbersFrom m s at)) e ∙ ap Fine z)
 
 module _ (s : List ℕ) (count at : ℕ) (r : Rest s count at) (h : count ≤ length s) where
-  rest-is : (t : Token) → t ≡ tokenAt s at → checkedAs 0 (numbersOf s) ≡ checkedAs count (andThen t (numbersFrom (length s + 1 - count - 1) s))
+  rest-is : (t : Token) → t ≡ tokenAt s at → checkedAs 0 (numbersIn s) ≡ checkedAs count (tokenThen t (numbersFrom (length s + 1 - count - 1) s))
   rest-is t e =
-      r .1 ∙ ap (checkedAs count) (from-by (length s + 1 - count) s at (omega arith) ∙ ap (λ (x : Token). andThen x (numbersFrom (length s + 1 - count - 1) s)) (sym e))
+      let next = ap (λ (x : Token). tokenThen x (numbersFrom (length s + 1 - count - 1) s)) (sym e) in
+      r .1 ∙ ap (checkedAs count) (from-by (length s + 1 - count) s at (omega arith) ∙ next)
 
-  pub rest-end : End ≡ tokenAt s at → Fine count ≡ checkedAs 0 (numbersOf s)
+  pub rest-end : End ≡ tokenAt s at → Fine count ≡ checkedAs 0 (numbersIn s)
   rest-end e =
       let z : count + 0 ≡ count = omega arith in
       sym (rest-is End e ∙ ap Fine z)
 
-  pub rest-bad : (i : ℕ) → Bad i ≡ tokenAt s at → Wrong i ≡ checkedAs 0 (numbersOf s)
+  pub rest-bad : (i : ℕ) → Bad i ≡ tokenAt s at → Wrong i ≡ checkedAs 0 (numbersIn s)
   rest-bad i e = sym (rest-is (Bad i) e)
 
   pub rest-more : (v next : ℕ) → Number v next ≡ tokenAt s at → Rest s (count + 1) next
   rest-more v next e =
       let less : length s + 1 - count - 1 ≡ length s + 1 - (count + 1) = omega arith in
-      (omega arith, rest-is (Number v next) e ∙ one-more count v (numbersFrom (length s + 1 - count - 1) s next) ∙ ap (λ (m : ℕ). checkedAs (count + 1) (numbersFrom m s next)) less)
+      let more = rest-is (Number v next) e ∙ one-more count v (numbersFrom (length s + 1 - count - 1) s next) in
+      (omega arith, more ∙ ap (λ (m : ℕ). checkedAs (count + 1) (numbersFrom m s next)) less)

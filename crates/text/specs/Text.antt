@@ -1,4 +1,5 @@
--- Decimal numbers in text: white space between them, and comments from a `#` to the end of its line.
+-- Studies as text, for people (no rule of document 01): decimal numbers, white space between them, and comments from a `#` to the end of
+-- its line.
 use Prim.Native.Nat.{ℕ, zero, suc, _+_, _-_, _*_}
 use mathlib.Core.Bool.{Bool, true, false, not, _&&_, _||_}
 use mathlib.Core.List.{List, [], _∷_}
@@ -51,22 +52,22 @@ pub data Said : Type 0 where
   Numbers : List ℕ → Said
   BadAt : ℕ → Said
 
-abbrev pub onto : ℕ → Said → Said
-onto v (Numbers vs) = Numbers (v ∷ vs)
-onto v (BadAt i) = BadAt i
+abbrev pub withNumber : ℕ → Said → Said
+withNumber v (Numbers vs) = Numbers (v ∷ vs)
+withNumber v (BadAt i) = BadAt i
 
-abbrev pub andThen : Token → (ℕ → Said) → Said
-andThen (Number v next) on = onto v (on next)
-andThen End on = Numbers []
-andThen (Bad i) on = BadAt i
+abbrev pub tokenThen : Token → (ℕ → Said) → Said
+tokenThen (Number v next) on = withNumber v (on next)
+tokenThen End on = Numbers []
+tokenThen (Bad i) on = BadAt i
 
 -- from a place on, at most so many: a number takes a byte or more, so that a text has no more numbers than bytes
 unfoldable pub numbersFrom : ℕ → List ℕ → ℕ → Said
 numbersFrom zero text at = Numbers []
-numbersFrom (suc most) text at = andThen (tokenAt text at) (numbersFrom most text)
+numbersFrom (suc most) text at = tokenThen (tokenAt text at) (numbersFrom most text)
 
-unfoldable pub numbersOf : List ℕ → Said
-numbersOf text = numbersFrom (length text + 1) text 0
+unfoldable pub numbersIn : List ℕ → Said
+numbersIn text = numbersFrom (length text + 1) text 0
 
 -- how many numbers, or the offset of the first bad byte
 abbrev pub checkedAs : ℕ → Said → Checked

@@ -3,7 +3,7 @@ ghost use mathlib.Core.Path.{_≡_};
 ghost use Prim.Native.Nat.{_+_, _-_, _≤_, _<_};
 ghost use mathlib.Core.Bool.{false};
 ghost use lib.ListN.{length, drop};
-ghost use Rattle.text.specs.Text.{isWhite, isDigit, isBlank, opens, skipFrom, digitsFrom, tokenAt, numbersOf, checkedAs};
+ghost use Rattle.text.specs.Text.{isWhite, isDigit, isBlank, opens, skipFrom, digitsFrom, tokenAt, numbersIn, checkedAs};
 
 // What comes next in a text: a number with the place after it, the end, or a byte that is bad, by its place.
 pub enum Token {
@@ -111,7 +111,7 @@ pub fn next(text: &[u8], at: usize) -> Token
 
 // How many numbers a text has, or the place of its first bad byte.
 pub fn check(text: &[u8]) -> Checked
-    ensures { λ r. ⌜ r ≡ checkedAs 0 (numbersOf (now (text .entry))) ⌝ }
+    ensures { λ r. ⌜ r ≡ checkedAs 0 (numbersIn (now (text .entry))) ⌝ }
 {
     let mut count: usize = 0;
     let mut at: usize = 0;

@@ -1,4 +1,4 @@
--- Calls made over and over: what the timed functions come to.
+-- Calls made over and over, for the benchmark (no rule of document 01): what the timed functions come to.
 use Prim.Native.Nat.{ℕ, zero, suc}
 use mathlib.Core.List.{List}
 use Rattle.door.specs.declared.Facility.{Facility}

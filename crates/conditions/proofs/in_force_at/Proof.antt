@@ -1,7 +1,8 @@
 -- The numbers of the segment, in order.
 use native.Mathlib.Omega.{arith}
 use native.Mathlib.Nat.{add-zero}
-use Rattle.conditions.specs.Row.{startOf, inForceIn, in-force-in}
+use Rattle.conditions.specs.Row.{startOf, inForceIn}
+use Rattle.conditions.proofs.Row.{in-force-in}
 use Rattle.conditions.proofs.in_force_at.Statement.{statement}
 use Rattle.conditions.proofs.in_force_at.Tie as tie
 
@@ -109,7 +110,46 @@ element-copy-out-t58 c = omega (arith, c .before .before .before .before .before
 
 returns : tie.Need-returns
 unfolding inForceIn
-returns c = rw (in-force-in _ _ (c .before .before .before .before .before .before .before .before .before .before .before .pre .1), add-zero (startOf (c .before .before .before .before .before .before .before .before .before .before .before .args .i)))
+returns c =
+    let start = c .before .before .before .before .before .before .before .before .before .before .before in
+    rw (in-force-in _ _ (start .pre .1), add-zero (startOf (start .args .i)))
 
 pub in-force-at-spec : {M : Type 1} → statement M
-in-force-at-spec = tie.close (tie.spec mul-at add-at mul-t4 element-copy-out-t7 add-t8 mul-t9 element-copy-out-t12 add-t14 mul-t15 element-copy-out-t18 add-t19 mul-t20 element-copy-out-t23 add-t24 mul-t25 element-copy-out-t28 add-t29 mul-t30 element-copy-out-t33 add-t34 mul-t35 element-copy-out-t38 add-t39 mul-t40 element-copy-out-t43 add-t44 mul-t45 element-copy-out-t48 add-t49 mul-t50 element-copy-out-t53 add-t54 mul-t55 element-copy-out-t58 returns)
+in-force-at-spec =
+    tie.close
+    (tie.spec
+    mul-at
+    add-at
+    mul-t4
+    element-copy-out-t7
+    add-t8
+    mul-t9
+    element-copy-out-t12
+    add-t14
+    mul-t15
+    element-copy-out-t18
+    add-t19
+    mul-t20
+    element-copy-out-t23
+    add-t24
+    mul-t25
+    element-copy-out-t28
+    add-t29
+    mul-t30
+    element-copy-out-t33
+    add-t34
+    mul-t35
+    element-copy-out-t38
+    add-t39
+    mul-t40
+    element-copy-out-t43
+    add-t44
+    mul-t45
+    element-copy-out-t48
+    add-t49
+    mul-t50
+    element-copy-out-t53
+    add-t54
+    mul-t55
+    element-copy-out-t58
+    returns)

@@ -11,7 +11,7 @@ sub-result : tie.Need-sub-result
 sub-result c = search needs
 
 mul-result : tie.Need-mul-result
-mul-result c = fits-le (mul-le-mul (c .pre .1) (sub-le 100 (c .args .drop))) (fits-lit tt)
+mul-result c = fits-le (mul-le-mul (c .pre .1) (sub-le 100 (c .args .cut))) (fits-lit tt)
 
 returns : tie.Need-returns
 unfolding loweredBy

@@ -134,4 +134,48 @@ unfolding withInForce puts
 returns c = rw (add-zero (startOf (c .before .args .i)), ← c .shortcuts-of .ensures)
 
 pub put-in-force-spec : {M : Type 1} → statement M
-put-in-force-spec = tie.close (tie.spec mul-at add-at shortcuts-of-requires mul-row element-write-row add-row mul-row-2 element-write-row-2 add-row-2 mul-row-3 element-write-row-3 add-row-3 mul-row-4 element-write-row-4 add-row-4 mul-row-5 element-write-row-5 add-row-5 mul-row-6 element-write-row-6 add-row-6 mul-row-7 element-write-row-7 add-row-7 mul-row-8 element-write-row-8 add-row-8 mul-row-9 element-write-row-9 add-row-9 mul-row-10 element-write-row-10 add-row-10 mul-row-11 element-write-row-11 add-row-11 mul-row-12 element-write-row-12 add-row-12 mul-row-13 element-write-row-13 returns)
+put-in-force-spec =
+    tie.close
+    (tie.spec
+    mul-at
+    add-at
+    shortcuts-of-requires
+    mul-row
+    element-write-row
+    add-row
+    mul-row-2
+    element-write-row-2
+    add-row-2
+    mul-row-3
+    element-write-row-3
+    add-row-3
+    mul-row-4
+    element-write-row-4
+    add-row-4
+    mul-row-5
+    element-write-row-5
+    add-row-5
+    mul-row-6
+    element-write-row-6
+    add-row-6
+    mul-row-7
+    element-write-row-7
+    add-row-7
+    mul-row-8
+    element-write-row-8
+    add-row-8
+    mul-row-9
+    element-write-row-9
+    add-row-9
+    mul-row-10
+    element-write-row-10
+    add-row-10
+    mul-row-11
+    element-write-row-11
+    add-row-11
+    mul-row-12
+    element-write-row-12
+    add-row-12
+    mul-row-13
+    element-write-row-13
+    returns)

@@ -1,6 +1,7 @@
 -- The reach, and the two numbers behind those in force.
 use native.Mathlib.Omega.{arith}
-use Rattle.conditions.specs.Row.{shortcutsIn, in-force-in}
+use Rattle.conditions.specs.Row.{shortcutsIn}
+use Rattle.conditions.proofs.Row.{in-force-in}
 use Rattle.conditions.proofs.shortcuts_at.Statement.{statement}
 use Rattle.conditions.proofs.shortcuts_at.Tie as tie
 
@@ -42,4 +43,18 @@ unfolding shortcutsIn
 returns c = let p = c .before .before .before .pre in rw (in-force-in _ _ (p .1), ← p .2 _ (p .1))
 
 pub shortcuts-at-spec : {M : Type 1} → statement M
-shortcuts-at-spec = tie.close (tie.spec mul-at add-at add-t4 mul-t5 element-copy-out-t8 add-t9 mul-t10 element-copy-out-t13 add-t14 mul-t15 element-copy-out-t18 returns)
+shortcuts-at-spec =
+    tie.close
+    (tie.spec
+    mul-at
+    add-at
+    add-t4
+    mul-t5
+    element-copy-out-t8
+    add-t9
+    mul-t10
+    element-copy-out-t13
+    add-t14
+    mul-t15
+    element-copy-out-t18
+    returns)

@@ -2,10 +2,10 @@
 use Prim.Native.Nat.{_-_}
 use mathlib.Core.Path.{refl, ap}
 use native.Mathlib.Omega.{arith}
-use Rattle.sheets.specs.declared.RoadGlobals.{RoadGlobals}
-use Rattle.sheets.specs.declared.PeriodGlobals.{PeriodGlobals}
-use Rattle.conditions.specs.Filling.{Filling, filling-start, filling-fits, filling-more, filling-done, shortcuts-done}
-use Rattle.conditions.specs.Good.{good-globals}
+use Rattle.parts.specs.declared.RoadGlobals.{RoadGlobals}
+use Rattle.parts.specs.declared.PeriodGlobals.{PeriodGlobals}
+use Rattle.conditions.proofs.Filling.{Filling, filling-start, filling-fits, filling-more, filling-done, shortcuts-done}
+use Rattle.conditions.proofs.Good.{good-globals}
 use Rattle.conditions.proofs.work_out.Statement.{statement}
 use Rattle.conditions.proofs.work_out.Tie as tie
 
@@ -34,13 +34,24 @@ element-write-row-3 : tie.Need-element-write-row-3 Inv-loop μ-loop
 element-write-row-3 c = omega arith
 
 loop-holds : tie.Need-loop-holds Inv-loop μ-loop
-loop-holds c = filling-start _ _ _ _ _ _ _ (c .before .before .before .args .row .now) (c .before .before .globals-of-road .ensures) refl (c .before .before .before .pre .2) (ap (λ (x : RoadGlobals). x .segments) (c .before .before .globals-of-road .ensures)) (ap (λ (x : PeriodGlobals). x .demand) (c .before .globals-of-period .ensures)) (ap (λ (x : PeriodGlobals). x .exit) (c .before .globals-of-period .ensures))
+loop-holds c =
+    let road = c .before .before .globals-of-road .ensures in
+    let sheet = c .before .globals-of-period .ensures in
+    let start = c .before .before .before in
+    filling-start _ _ _ _ _ _ _ (start .args .row .now) road refl (start .pre .2)
+    (ap (λ (x : RoadGlobals). x .segments) road) (ap (λ (x : PeriodGlobals). x .demand) sheet) (ap (λ (x : PeriodGlobals). x .outlet) sheet)
+
+cast-segment-at : tie.Need-cast-segment-at Inv-loop μ-loop
+cast-segment-at c = omega (arith, c .before .loop .inv .all, c .before .before .before .before .before .pre .0 .segments .1)
 
 segment-at-requires : tie.Need-segment-at-requires Inv-loop μ-loop
-segment-at-requires c κs = omega (arith, c .before .loop .inv .all, c .before .before .before .before .before .pre .0 .segments .1)
+segment-at-requires c κs = tt
+
+cast-ramp-at : tie.Need-cast-ramp-at Inv-loop μ-loop
+cast-ramp-at c = omega (arith, c .before .before .loop .inv .all, c .before .before .before .before .before .before .pre .0 .segments .1)
 
 ramp-at-requires : tie.Need-ramp-at-requires Inv-loop μ-loop
-ramp-at-requires c κs = omega (arith, c .before .before .loop .inv .all, c .before .before .before .before .before .before .pre .0 .segments .1)
+ramp-at-requires c κs = tt
 
 in-force-requires : tie.Need-in-force-requires Inv-loop μ-loop
 in-force-requires c κs =
@@ -49,21 +60,53 @@ in-force-requires c κs =
     (rw (at .globals-are) (good-globals _ p), rw (c .before .segment-at .ensures) (p .segment _ (omega (arith, at .all))))
 
 put-in-force-requires : tie.Need-put-in-force-requires Inv-loop μ-loop
-put-in-force-requires c κs = filling-fits _ _ _ _ _ _ (c .before .before .before .before .before .loop .inv) (c .before .before .before .before .before .before .before .before .before .pre .0) (c .before .before .before .before .before .before .before .before .before .pre .1) (c .before .before .before .before .loop-test .taken) _ _ _ (c .before .before .before .segment-at .ensures) (c .before .before .ramp-at .ensures) (c .before .in-force .ensures)
+put-in-force-requires c κs =
+    let at = c .before .before .before .before .before in
+    let start = at .before .before .before .before in
+    filling-fits _ _ _ _ _ _ (at .loop .inv) (start .pre .0) (start .pre .1) (c .before .before .before .before .loop-test .taken) _ _ _
+    (c .before .before .before .segment-at .ensures) (c .before .before .ramp-at .ensures) (c .before .in-force .ensures)
 
 add-i : tie.Need-add-i Inv-loop μ-loop
-add-i c = omega (arith, c .before .before .before .before .before .before .loop .inv .all, c .before .before .before .before .before .before .before .before .before .before .pre .0 .segments .1)
+add-i c =
+    let at = c .before .before .before .before .before .before in
+    omega (arith, at .loop .inv .all, at .before .before .before .before .pre .0 .segments .1)
 
 loop-less : tie.Need-loop-less Inv-loop μ-loop
-loop-less c = omega (arith, c .before .before .before .before .before .before .loop .inv .within)
+loop-less c = omega (arith, c .before .before .before .before .before .before .loop .inv .up-to)
 
 loop-again : tie.Need-loop-again Inv-loop μ-loop
 loop-again c =
+    let at = c .before .before .before .before .before .before in
+    let start = at .before .before .before .before in
     rw (c .put-in-force .ensures)
-    (filling-more _ _ _ _ _ _ (c .before .before .before .before .before .before .loop .inv) (c .before .before .before .before .before .before .before .before .before .before .pre .0) (c .before .before .before .before .before .before .before .before .before .before .pre .1) (c .before .before .before .before .before .loop-test .taken) _ _ _ (c .before .before .before .before .segment-at .ensures) (c .before .before .before .ramp-at .ensures) (c .before .before .in-force .ensures))
+    (filling-more _ _ _ _ _ _ (at .loop .inv) (start .pre .0) (start .pre .1) (c .before .before .before .before .before .loop-test .taken) _ _ _
+    (c .before .before .before .before .segment-at .ensures) (c .before .before .before .ramp-at .ensures) (c .before .before .in-force .ensures))
 
 returns : tie.Need-returns Inv-loop μ-loop
-returns c = (filling-done _ _ _ _ _ _ (c .before .loop .inv) (c .loop-test .left), shortcuts-done _ _ _ _ _ _ (c .before .loop .inv) (c .loop-test .left))
+returns c =
+    let at = c .before .loop .inv in
+    (filling-done _ _ _ _ _ _ at (c .loop-test .left), shortcuts-done _ _ _ _ _ _ at (c .loop-test .left))
 
 pub work-out-spec : {M : Type 1} → statement M
-work-out-spec = tie.close (tie.spec Inv-loop μ-loop globals-of-road-requires globals-of-period-requires cast-ns element-write-row element-write-row-2 element-write-row-3 loop-holds segment-at-requires ramp-at-requires in-force-requires put-in-force-requires add-i loop-less loop-again returns)
+work-out-spec =
+    tie.close
+    (tie.spec
+    Inv-loop
+    μ-loop
+    globals-of-road-requires
+    globals-of-period-requires
+    cast-ns
+    element-write-row
+    element-write-row-2
+    element-write-row-3
+    loop-holds
+    cast-segment-at
+    segment-at-requires
+    cast-ramp-at
+    ramp-at-requires
+    in-force-requires
+    put-in-force-requires
+    add-i
+    loop-less
+    loop-again
+    returns)

@@ -1,12 +1,13 @@
 -- The cell of the segment, and its letter.
 use mathlib.Core.Path.{_≡_, ap, sym, _∙_}
-use Rattle.sheets.specs.Parts.{segmentOf}
+use Rattle.parts.specs.Parts.{segmentOf}
 use Rattle.letters.specs.Level.{levelOf}
 use native.Mathlib.Omega.{arith}
 use Rattle.steps.specs.Step.{cellIn}
 use Rattle.conditions.specs.Conditions.{inForceAt, inForce, conditionsOf}
-use Rattle.conditions.specs.Good.{in-force-at}
-use Rattle.facility.specs.Calls.{reported, levelAt, sheetBy}
+use Rattle.conditions.proofs.Good.{in-force-at}
+use Rattle.running.specs.Steps.{sheetBy}
+use Rattle.facility.specs.Calls.{reported, levelAt}
 use Rattle.facility.proofs.report_at.Statement.{statement}
 use Rattle.facility.proofs.report_at.Tie as tie
 
@@ -16,8 +17,11 @@ mul-cell c = omega (arith, c .before .before .pre .0 .segments .1, c .before .be
 element-copy-out-cell : tie.Need-element-copy-out-cell
 element-copy-out-cell c = omega (arith, c .before .before .pre .0 .segments .1, c .before .before .pre .1)
 
+cast-segment-at : tie.Need-cast-segment-at
+cast-segment-at c = omega (arith, c .before .before .before .before .pre .0 .segments .1, c .before .before .before .before .pre .1)
+
 segment-at-requires : tie.Need-segment-at-requires
-segment-at-requires c κs = omega (arith, c .before .before .before .before .pre .0 .segments .1, c .before .before .before .before .pre .1)
+segment-at-requires c κs = tt
 
 level-of-requires : tie.Need-level-of-requires
 level-of-requires c κs = tt
@@ -35,4 +39,4 @@ returns c =
     ap (reported (cellIn (a .f .state) (a .i))) (rw (c .before .segment-at .ensures) at (c .level-of .ensures) ∙ sym e)
 
 pub report-at-spec : {M : Type 1} → statement M
-report-at-spec = tie.close (tie.spec mul-cell element-copy-out-cell segment-at-requires level-of-requires returns)
+report-at-spec = tie.close (tie.spec mul-cell element-copy-out-cell cast-segment-at segment-at-requires level-of-requires returns)

@@ -1,6 +1,6 @@
 -- The quotient rounded up says the same as the product.
 use borrow.Author.Needs.{needs}
-use Rattle.letters.specs.Level.{by-quotient}
+use Rattle.letters.proofs.Quotients.{by-quotient}
 use Rattle.letters.proofs.holds_at_most.Statement.{statement}
 use Rattle.letters.proofs.holds_at_most.Tie as tie
 

@@ -14,7 +14,10 @@ wide-requires-2 : tie.Need-wide-requires-2
 wide-requires-2 c κs = tt
 
 mul-level-by : tie.Need-mul-level-by
-mul-level-by c = let a : c .before .wide .result ≤ 4294967295 = omega (arith, c .before .wide .ensures .1) in let b : c .wide2 .result ≤ 4294967295 = omega (arith, c .wide2 .ensures .1) in fits-le (mul-le-mul a b) (fits-lit tt)
+mul-level-by c =
+    let a : c .before .wide .result ≤ 4294967295 = omega (arith, c .before .wide .ensures .1) in
+    let b : c .wide2 .result ≤ 4294967295 = omega (arith, c .wide2 .ensures .1) in
+    fits-le (mul-le-mul a b) (fits-lit tt)
 
 level-by-requires : tie.Need-level-by-requires
 level-by-requires c κs = tt

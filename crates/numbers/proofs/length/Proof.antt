@@ -26,13 +26,23 @@ returns-4 : tie.Need-returns-4
 unfolding numberBytes bytesFrom
 returns-4 c =
     let v = c .before .before .before .before .args .value in
-    rw (le-ltb v 128 (omega arith), le-ltb (v / 128) 128 (omega arith), le-ltb (v / 128 / 128) 128 (omega arith), lt-ltb (v / 128 / 128 / 128) 128 (omega arith))
+    rw (
+      le-ltb v 128 (omega arith),
+      le-ltb (v / 128) 128 (omega arith),
+      le-ltb (v / 128 / 128) 128 (omega arith),
+      lt-ltb (v / 128 / 128 / 128) 128 (omega arith),
+    )
 
 returns-5 : tie.Need-returns-5
 unfolding numberBytes bytesFrom
 returns-5 c =
     let v = c .before .before .before .before .args .value in
-    rw (le-ltb v 128 (omega arith), le-ltb (v / 128) 128 (omega arith), le-ltb (v / 128 / 128) 128 (omega arith), le-ltb (v / 128 / 128 / 128) 128 (omega arith))
+    rw (
+      le-ltb v 128 (omega arith),
+      le-ltb (v / 128) 128 (omega arith),
+      le-ltb (v / 128 / 128) 128 (omega arith),
+      le-ltb (v / 128 / 128 / 128) 128 (omega arith),
+    )
 
 pub length-spec : {M : Type 1} → statement M
 length-spec = tie.close (tie.spec returns returns-2 returns-3 returns-4 returns-5)

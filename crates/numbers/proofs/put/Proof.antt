@@ -6,14 +6,14 @@ use native.Mathlib.Omega.{arith}
 use lib.ListN.{length, drop, set, length-set}
 use denote.Ref.{now}
 use Rattle.numbers.specs.Number.{lowGroup, numberBytes, bytesFrom}
-use Rattle.numbers.specs.Turns.{top}
-use Rattle.numbers.specs.Stores.{stored, store-inside, store-rest, store-more, store-whole, bytes-more, bytes-last, top-down}
+use Rattle.numbers.proofs.Turns.{top}
+use Rattle.numbers.proofs.Stores.{storedTo, store-inside, store-rest, store-more, store-whole, bytes-more, bytes-last, top-down}
 use Rattle.numbers.proofs.put.Statement.{statement}
 use Rattle.numbers.proofs.put.Tie as tie
 
 abbrev Inv-loop : tie.InvT-loop
 Inv-loop out₀ v x₀ i₀ left₀ out x i left =
-    (out ≡ stored (numberBytes v) out₀ i)
+    (out ≡ storedTo (numberBytes v) out₀ i)
     × (drop i (numberBytes v) ≡ bytesFrom left x)
     × (x < top left)
     × (length out ≡ length out₀)
@@ -25,7 +25,8 @@ abbrev μ-loop : tie.MeasureT-loop
 abbrev W : tie.At-loop Inv-loop μ-loop → List ℕ
 W c = numberBytes (c .before .args .value)
 
-more : (c : tie.In-loop Inv-loop μ-loop) → drop (c .before .loop .i) (W (c .before)) ≡ lowGroup (c .before .loop .x) ∷ bytesFrom (c .before .loop .left - 1) (c .before .loop .x / 128)
+more : (c : tie.In-loop Inv-loop μ-loop)
+    → drop (c .before .loop .i) (W (c .before)) ≡ lowGroup (c .before .loop .x) ∷ bytesFrom (c .before .loop .left - 1) (c .before .loop .x / 128)
 more c = c .before .loop .inv .1 ∙ bytes-more _ _ (c .loop-test .taken) (c .before .loop .inv .2)
 
 last : (c : tie.After-loop Inv-loop μ-loop) → drop (c .before .loop .i) (W (c .before)) ≡ c .before .loop .x ∷ []
@@ -57,7 +58,8 @@ loop-again : tie.Need-loop-again Inv-loop μ-loop
 loop-again c =
     let l = c .before .loop in
     let w = W (c .before) in (
-      ap (λ (o : List ℕ). set o (l .i) (lowGroup (l .x))) (l .inv .0) ∙ store-more w (l .i) _ _ (more c) (now (c .before .before .args .out)) (c .before .before .pre),
+      ap (λ (o : List ℕ). set o (l .i) (lowGroup (l .x))) (l .inv .0)
+          ∙ store-more w (l .i) _ _ (more c) (now (c .before .before .args .out)) (c .before .before .pre),
       store-rest w (l .i) _ _ (more c),
       top-down _ _ (c .loop-test .taken) (l .inv .2) .1,
       simp length-set (l .inv .3),

@@ -4,14 +4,14 @@ use Prim.Native.Nat.{ℕ, _+_, _-_, _*_, _^_, _≤_, _<_}
 use native.Mathlib.Omega.{arith}
 use lib.ListN.{length, drop, getD}
 use denote.Ref.{now}
-use Rattle.numbers.specs.Number.{groups, readNumber}
-use Rattle.numbers.specs.Turns.{onto, top, onto-start, onto-more, read-end, read-wide, read-fifth, read-last, read-more, fifth-fits, scale-fits, group-below, room-more}
+use Rattle.numbers.specs.Number.{groups, readNumber, above}
+use Rattle.numbers.proofs.Turns.{top, above-start, above-more, read-end, read-wide, read-fifth, read-last, read-more, fifth-fits, scale-fits, group-below, room-more}
 use Rattle.numbers.proofs.read.Statement.{statement}
 use Rattle.numbers.proofs.read.Tie as tie
 
 abbrev Inv-loop : tie.InvT-loop
 Inv-loop bytes at i₀ value₀ scale₀ least₀ left₀ i value scale least left =
-    (readNumber bytes at ≡ onto value scale i (groups left least (drop i bytes))) × (value < scale) × (scale * top left ≡ 2 ^ 32)
+    (readNumber bytes at ≡ above value scale i (groups left least (drop i bytes))) × (value < scale) × (scale * top left ≡ 2 ^ 32)
 
 abbrev μ-loop : tie.MeasureT-loop
 μ-loop bytes at i₀ value₀ scale₀ least₀ left₀ i value scale least left = left
@@ -41,7 +41,7 @@ below c = group-below _ _ _ (L c .loop .inv .1) (L c .loop .inv .2)
 
 loop-holds : tie.Need-loop-holds Inv-loop μ-loop
 unfolding readNumber top
-loop-holds c = (onto-start _ _, omega arith, refl)
+loop-holds c = (above-start _ _, omega arith, refl)
 
 shared-slice-read-b : tie.Need-shared-slice-read-b Inv-loop μ-loop
 shared-slice-read-b c = omega arith
@@ -57,7 +57,8 @@ finished-requires-2 c κs =
     let t = c .before .before in
     (omega (arith, below t _ (c .if4 .taken), scale t (c .before .if2 .left)), omega (arith, inside t))
 
-more-below : (c : tie.Else4 Inv-loop μ-loop) → L (c .before .before) .loop .value + L (c .before .before) .loop .scale * (B (c .before .before) - 128) < L (c .before .before) .loop .scale * 128
+more-below : (c : tie.Else4 Inv-loop μ-loop)
+    → L (c .before .before) .loop .value + L (c .before .before) .loop .scale * (B (c .before .before) - 128) < L (c .before .before) .loop .scale * 128
 more-below c = below (c .before .before) _ (omega (arith, byte (c .before .before)))
 
 mul-value : tie.Need-mul-value Inv-loop μ-loop
@@ -80,33 +81,37 @@ loop-less c = omega arith
 
 loop-again : tie.Need-loop-again Inv-loop μ-loop
 loop-again c =
-    let l = L (c .before .before) .loop in (
-      l .inv .0 ∙ ap (onto (l .value) (l .scale) (l .i)) (read-more _ _ _ (inside (c .before .before)) _ (c .before .if2 .left) (c .if4 .left)) ∙ onto-more _ _ _ _ _,
+    let t = c .before .before in
+    let l = L t .loop in
+    let more = read-more _ _ _ (inside t) _ (c .before .if2 .left) (c .if4 .left) in (
+      l .inv .0 ∙ ap (above (l .value) (l .scale) (l .i)) more ∙ above-more _ _ _ _ _,
       more-below c,
       room-more _ _ _ (l .inv .1) (l .inv .2) (c .before .if2 .left),
     )
 
 returns : tie.Need-returns Inv-loop μ-loop
-unfolding onto
-returns c = sym (c .before .loop .inv .0 ∙ ap (onto _ _ _) (read-end _ _ _ _ (c .if1 .taken)))
+unfolding above
+returns c = sym (c .before .loop .inv .0 ∙ ap (above _ _ _) (read-end _ _ _ _ (c .if1 .taken)))
 
 returns-2 : tie.Need-returns-2 Inv-loop μ-loop
-unfolding onto
+unfolding above
 returns-2 c =
     let l = L (c .before .before) .loop in
-    sym (l .inv .0 ∙ ap (onto (l .value) (l .scale) (l .i)) (read-wide _ _ _ (inside (c .before .before)) _ (c .before .if2 .taken) (c .if3 .taken)))
+    sym (l .inv .0 ∙ ap (above (l .value) (l .scale) (l .i)) (read-wide _ _ _ (inside (c .before .before)) _ (c .before .if2 .taken) (c .if3 .taken)))
 
 returns-3 : tie.Need-returns-3 Inv-loop μ-loop
 returns-3 c =
     let t = c .before .before .before in
     let l = L t .loop in
-    c .finished .ensures ∙ sym (l .inv .0 ∙ ap (onto (l .value) (l .scale) (l .i)) (read-fifth _ _ _ (inside t) _ (c .before .before .if2 .taken) (c .before .if3 .left)))
+    let ended = read-fifth _ _ _ (inside t) _ (c .before .before .if2 .taken) (c .before .if3 .left) in
+    c .finished .ensures ∙ sym (l .inv .0 ∙ ap (above (l .value) (l .scale) (l .i)) ended)
 
 returns-4 : tie.Need-returns-4 Inv-loop μ-loop
 returns-4 c =
     let t = c .before .before .before in
     let l = L t .loop in
-    c .finished2 .ensures ∙ sym (l .inv .0 ∙ ap (onto (l .value) (l .scale) (l .i)) (read-last _ _ _ (inside t) _ (c .before .before .if2 .left) (c .before .if4 .taken)))
+    let ended = read-last _ _ _ (inside t) _ (c .before .before .if2 .left) (c .before .if4 .taken) in
+    c .finished2 .ensures ∙ sym (l .inv .0 ∙ ap (above (l .value) (l .scale) (l .i)) ended)
 
 pub read-spec : {M : Type 1} → statement M
 read-spec =

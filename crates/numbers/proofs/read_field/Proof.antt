@@ -2,7 +2,7 @@
 use mathlib.Core.Path.{sym, ap, _∙_}
 use borrow.Author.Needs.{needs}
 use Rattle.numbers.specs.Number.{reading}
-use Rattle.numbers.specs.Field.{field-low, field-high, field-value, field-refused}
+use Rattle.numbers.proofs.Fields.{field-low, field-high, field-value, field-refused}
 use Rattle.numbers.proofs.read_field.Statement.{statement}
 use Rattle.numbers.proofs.read_field.Tie as tie
 

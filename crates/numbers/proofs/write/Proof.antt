@@ -6,8 +6,9 @@ use borrow.Author.Needs.{needs}
 use lib.ListN.{length}
 use denote.Ref.{now}
 use Rattle.numbers.specs.Number.{numberBytes}
-use Rattle.numbers.specs.Writing.{Wrote, written, no-room}
-use Rattle.numbers.specs.Stores.{lent-back}
+use Rattle.numbers.specs.Writing.{Wrote}
+use Rattle.numbers.proofs.Writings.{written, no-room}
+use Rattle.numbers.proofs.Stores.{lent-back}
 use Rattle.numbers.proofs.write.Statement.{statement}
 use Rattle.numbers.proofs.write.Tie as tie
 
@@ -49,8 +50,10 @@ returns-3 c =
     let c₂ = c .before .before .before .before in
     let a = c₂ .before .before .before .before .args in
     let n = c₂ .before .before .length .ensures in
-    let h : a .at + length (numberBytes (a .value)) ≤ length (now (a .buffer)) = omega (arith, n) in
-    (ap Wrote n ∙ sym (written (now (a .buffer)) (a .at) (numberBytes (a .value)) h .0), lent-back (now (a .buffer)) (numberBytes (a .value)) _ (a .at) h (c .before .before .put .ensures))
+    let h : a .at + length (numberBytes (a .value)) ≤ length (now (a .buffer)) = omega (arith, n) in (
+      ap Wrote n ∙ sym (written (now (a .buffer)) (a .at) (numberBytes (a .value)) h .0),
+      lent-back (now (a .buffer)) (numberBytes (a .value)) _ (a .at) h (c .before .before .put .ensures),
+    )
 
 pub write-spec : {M : Type 1} → statement M
 write-spec =

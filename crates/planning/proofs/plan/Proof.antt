@@ -1,8 +1,8 @@
--- The four ways out: refused while reading, by 8, by 15, or accepted; a sheet that was read is sound.
+-- The four ways out: refused while reading, by 8, by 15, or accepted; a sheet that was read is good.
 use mathlib.Core.Path.{_∙_}
 use denote.Ref.{now}
 use borrow.Author.Tests.{not-true, not-false}
-use Rattle.planning.proofs.Plans.{plan-refused, got-sound, plan-length, plan-outside, plan-accepted}
+use Rattle.planning.proofs.Plans.{plan-refused, got-good, plan-length, plan-outside, plan-accepted}
 use borrow.Author.Needs.{needs}
 use Rattle.planning.proofs.plan.Statement.{statement}
 use Rattle.planning.proofs.plan.Tie as tie
@@ -29,9 +29,10 @@ returns-2 c =
 
 demands-of-requires : tie.Need-demands-of-requires
 demands-of-requires c κs =
-    let got = c .before .before .before .before .before .read-sheet in
-    let sound = got-sound _ (now (c .before .before .before .before .before .before .before .before .args .carryover)) _ (got .ensures) (not-false _ (c .before .before .before .if1 .left)) in
-    (sound .0, c .before .if2 .left, sound .1)
+    let t = c .before .before .before in
+    let slice = now (t .before .before .before .before .before .args .carryover) in
+    let good = got-good _ slice _ (t .before .before .read-sheet .ensures) (not-false _ (t .if1 .left)) in
+    (good .0, c .before .if2 .left, good .1)
 
 refused-requires-3 : tie.Need-refused-requires-3
 refused-requires-3 c κs = search needs
@@ -49,9 +50,10 @@ returns-3 c =
 
 accepted-requires : tie.Need-accepted-requires
 accepted-requires c κs =
-    let got = c .before .before .before .before .before .before .before .before .before .before .read-sheet in
-    let sound = got-sound _ (now (c .before .before .before .before .before .before .before .before .before .before .before .before .before .args .carryover)) _ (got .ensures) (not-false _ (c .before .before .before .before .before .before .before .before .if1 .left)) in
-    (sound .0, c .before .before .before .before .before .before .if2 .left, sound .1)
+    let t = c .before .before .before .before .before .before .before .before in
+    let slice = now (t .before .before .before .before .before .args .carryover) in
+    let good = got-good _ slice _ (t .before .before .read-sheet .ensures) (not-false _ (t .if1 .left)) in
+    (good .0, c .before .before .before .before .before .before .if2 .left, good .1)
 
 same-length-2 : tie.Need-same-length-2
 same-length-2 c = search needs
@@ -62,7 +64,8 @@ returns-4 c =
     let taken = not-false _ (c .before .before .before .before .before .before .before .before .before .before .before .if1 .left) in
     let same = c .before .before .before .before .before .before .before .before .before .if2 .left in
     let held = c .before .before .before .before .before .before .before .demands-of in
-    c .before .before .accepted .ensures ∙ plan-accepted _ _ _ (got .ensures) taken same _ (held .ensures) (not-false _ (c .before .before .before .before .before .if3 .left))
+    let fit = not-false _ (c .before .before .before .before .before .if3 .left) in
+    c .before .before .accepted .ensures ∙ plan-accepted _ _ _ (got .ensures) taken same _ (held .ensures) fit
 
 pub plan-spec : {M : Type 1} → statement M
 plan-spec =

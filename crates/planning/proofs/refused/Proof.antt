@@ -1,6 +1,6 @@
 -- Every number but the refusal and its offset is 0.
 use Rattle.planning.specs.Plan.{refusedPlan}
-use Rattle.planning.proofs.Literals.{zero-is}
+use Rattle.sections.proofs.Literals.{zero-is}
 use Rattle.planning.proofs.refused.Statement.{statement}
 use Rattle.planning.proofs.refused.Tie as tie
 

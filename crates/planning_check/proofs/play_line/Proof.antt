@@ -63,7 +63,9 @@ array-share-prefix-bytes : tie.Need-array-share-prefix-bytes
 array-share-prefix-bytes c = search needs
 
 slice-aggregate-put-plan : tie.Need-slice-aggregate-put-plan
-slice-aggregate-put-plan c = sym (length-take-le _ _ (c .before .before .before .before .before .before .before .before .before .before .before .unhex .ensures))
+slice-aggregate-put-plan c =
+    let bytes = c .before .before .before .before .before .before .before .before .before .before .before .unhex in
+    sym (length-take-le _ _ (bytes .ensures))
 
 slice-relend-prefix-put-plan : tie.Need-slice-relend-prefix-put-plan
 slice-relend-prefix-put-plan c = search needs

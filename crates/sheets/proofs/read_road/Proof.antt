@@ -6,9 +6,9 @@ use Rattle.numbers.specs.Number.{reading}
 use Rattle.numbers.specs.Field.{readField}
 use native.Mathlib.Omega.{arith}
 use Rattle.sheets.specs.Layout.{roadRange}
-use Rattle.sheets.specs.Read.{sheetOf}
-use Rattle.sheets.specs.Ranges.{road-first}
-use Rattle.sheets.specs.Turns.{road-read, road-refused}
+use Rattle.sheets.specs.Read.{sheetReading}
+use Rattle.sheets.proofs.Ranges.{road-first}
+use Rattle.sheets.proofs.Turns.{road-read, road-refused}
 use borrow.Author.Needs.{needs}
 use Rattle.sheets.proofs.read_road.Statement.{statement}
 use Rattle.sheets.proofs.read_road.Tie as tie
@@ -37,7 +37,7 @@ enum-known-got-2 c = search needs
 returns : tie.Need-returns
 returns c =
     let f = c .before .before .before .before in
-    c .read-row .ensures ∙ sym (ap sheetOf (road-read _ _ _ (sym (field f) ∙ ap reading (c .before .before .got .given .1))))
+    c .read-row .ensures ∙ sym (ap sheetReading (road-read _ _ _ (sym (field f) ∙ ap reading (c .before .before .got .given .1))))
 
 returns-2 : tie.Need-returns-2
 returns-2 c = sym (road-refused _ _ (sym (field (c .before .before .before)) ∙ ap reading (c .before .got2 .given .1)))

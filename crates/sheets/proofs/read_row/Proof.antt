@@ -7,22 +7,29 @@ use Rattle.numbers.specs.declared.Range.{Range}
 use Rattle.numbers.specs.Number.{reading}
 use Rattle.numbers.specs.Field.{readField}
 use Rattle.sheets.specs.Layout.{rangeOf}
-use Rattle.sheets.specs.Read.{sheetOf}
-use Rattle.sheets.specs.Ranges.{count-most}
-use Rattle.sheets.specs.Turns.{Turn, turn-start, turn-more, turn-refused, turn-sheet}
+use Rattle.sheets.specs.Read.{sheetReading, fieldOf}
+use Rattle.sheets.proofs.Ranges.{count-most}
+use Rattle.sheets.proofs.Turns.{turn-again, row-refused, row-read}
+use Rattle.numbers.proofs.Rows.{Turn, turn-start}
 use borrow.Author.Needs.{needs}
 use Rattle.sheets.proofs.read_row.Statement.{statement}
 use Rattle.sheets.proofs.read_row.Tie as tie
 
 abbrev Inv-loop : tie.InvT-loop
-Inv-loop bytes layout n row₀ k₀ at₀ row k at = Turn layout bytes n row k at
+Inv-loop bytes layout n row₀ k₀ at₀ row k at = Turn (fieldOf layout bytes) 0 n 452 row k at
 
 abbrev μ-loop : tie.MeasureT-loop
 μ-loop bytes layout n row₀ k₀ at₀ row k at = n - k
 
 -- the field that a turn reads
-field : (c : tie.After-read-field Inv-loop μ-loop) → reading (c .read-field .result) ≡ readField (rangeOf (c .before .before .before .before .before .before .args .layout) (c .before .before .before .loop .k)) (now (c .before .before .before .before .before .before .args .bytes)) (c .before .before .before .loop .at)
-field c = c .read-field .ensures ∙ ap (λ (r : Range). readField r (now (c .before .before .before .before .before .before .args .bytes)) (c .before .before .before .loop .at)) (c .before .range-at .ensures)
+abbrev L : tie.After-read-field Inv-loop μ-loop → tie.At-loop Inv-loop μ-loop
+L c = c .before .before .before
+
+field : (c : tie.After-read-field Inv-loop μ-loop) → reading (c .read-field .result)
+    ≡ readField (rangeOf (L c .before .before .before .args .layout) (L c .loop .k)) (now (L c .before .before .before .args .bytes)) (L c .loop .at)
+field c =
+    let range = c .before .range-at .ensures in
+    c .read-field .ensures ∙ ap (λ (r : Range). readField r (now (L c .before .before .before .args .bytes)) (L c .loop .at)) range
 
 most : (c : tie.After-count Inv-loop μ-loop) → c .count .result ≤ 452
 most c = omega (arith, c .count .ensures, count-most (c .before .before .args .layout))
@@ -31,7 +38,7 @@ count-requires : tie.Need-count-requires Inv-loop μ-loop
 count-requires c κs = search needs
 
 loop-holds : tie.Need-loop-holds Inv-loop μ-loop
-loop-holds c = turn-start _ _ _ (c .count .ensures)
+loop-holds c = turn-start _ 0 _ 452
 
 range-at-requires : tie.Need-range-at-requires Inv-loop μ-loop
 range-at-requires c κs = search needs
@@ -58,20 +65,22 @@ loop-again : tie.Need-loop-again Inv-loop μ-loop
 loop-again c =
     let f = c .before .before .before in
     let t = f .before .before in
-    turn-more _ _ _ _ _ _ (most (t .before .before)) (t .before .loop .inv) _ _ (t .loop-test .taken) (sym (field f) ∙ ap reading (c .before .got .given .1))
+    let got = sym (field f) ∙ ap reading (c .before .got .given .1) in
+    turn-again _ _ _ _ _ _ (t .before .before .count .ensures) (t .before .loop .inv) _ _ (t .loop-test .taken) got
 
 enum-known-got-2 : tie.Need-enum-known-got-2 Inv-loop μ-loop
 enum-known-got-2 c = search needs
 
 returns : tie.Need-returns Inv-loop μ-loop
-unfolding sheetOf
+unfolding sheetReading
 returns c =
     let f = c .before .before .before in
     let t = f .before .before in
-    sym (ap sheetOf (turn-refused _ _ _ _ _ _ (most (t .before .before)) (t .before .loop .inv) _ (t .loop-test .taken) (sym (field f) ∙ ap reading (c .before .got2 .given .1))))
+    let got = sym (field f) ∙ ap reading (c .before .got2 .given .1) in
+    sym (ap sheetReading (row-refused _ _ _ _ _ _ (t .before .before .count .ensures) (t .before .loop .inv) _ (t .loop-test .taken) got))
 
 returns-2 : tie.Need-returns-2 Inv-loop μ-loop
-returns-2 c = sym (turn-sheet _ _ _ _ _ _ (most (c .before .before)) (c .before .loop .inv) (c .loop-test .left))
+returns-2 c = sym (row-read _ _ _ _ _ _ (c .before .before .count .ensures) (c .before .loop .inv) (c .loop-test .left))
 
 pub read-row-spec : {M : Type 1} → statement M
 read-row-spec =

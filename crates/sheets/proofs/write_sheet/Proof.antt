@@ -7,7 +7,7 @@ use lib.Seq.{length-take-le}
 use denote.Ref.{now}
 use Rattle.numbers.specs.Writing.{writeAnswer, writeInto}
 use Rattle.sheets.specs.Write.{rowBytes}
-use Rattle.sheets.specs.Ranges.{count-most}
+use Rattle.sheets.proofs.Ranges.{count-most}
 use borrow.Author.Needs.{needs}
 use Rattle.sheets.proofs.write_sheet.Statement.{statement}
 use Rattle.sheets.proofs.write_sheet.Tie as tie

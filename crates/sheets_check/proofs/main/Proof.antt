@@ -1,7 +1,5 @@
 -- The records in turn: each starts after the one before.
-use lib.ListN.{length}
 use Prim.Native.Nat.{_≤_, _-_}
-use native.Mathlib.Omega.{arith}
 use borrow.Author.Needs.{needs}
 use Rattle.sheets_check.proofs.main.Statement.{statement}
 use Rattle.sheets_check.proofs.main.Tie as tie

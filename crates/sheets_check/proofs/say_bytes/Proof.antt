@@ -1,7 +1,6 @@
 -- Every byte in turn.
 use lib.ListN.{length}
 use Prim.Native.Nat.{_≤_, _-_}
-use native.Mathlib.Omega.{arith}
 use borrow.Author.Needs.{needs}
 use Rattle.sheets_check.proofs.say_bytes.Statement.{statement}
 use Rattle.sheets_check.proofs.say_bytes.Tie as tie

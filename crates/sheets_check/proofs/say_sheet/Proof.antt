@@ -1,6 +1,5 @@
 -- Every number of the row in turn.
 use Prim.Native.Nat.{_≤_, _-_}
-use native.Mathlib.Omega.{arith}
 use borrow.Author.Needs.{needs}
 use Rattle.sheets_check.proofs.say_sheet.Statement.{statement}
 use Rattle.sheets_check.proofs.say_sheet.Tie as tie

@@ -2,7 +2,7 @@
 use Prim.Native.Nat.{_≤_, _-_, _*_}
 use mathlib.Core.Path.{_≡_, refl}
 use native.Mathlib.Omega.{arith}
-use Rattle.steps.specs.Sums.{sum-more}
+use Rattle.steps.proofs.Sums.{sum-more}
 use Rattle.conditions.specs.Conditions.{inForceAt}
 use Rattle.conditions.specs.Row.{conditionsIn}
 use Rattle.steps.specs.Step.{sumTo, arrivedOf}
@@ -16,7 +16,9 @@ abbrev μ-loop : tie.MeasureT-loop
 μ-loop row ns sum₀ i₀ sum i = ns - i
 
 ramp-small : (c : tie.After-in-force-at Inv-loop μ-loop) → c .in-force-at .result .demand ≤ 10000
-ramp-small c = rw (c .in-force-at .ensures) (c .before .before .before .before .pre .place (c .before .before .loop .i) (omega (arith, c .before .before .loop .inv)) .demand)
+ramp-small c =
+    let at = c .before .before in
+    rw (c .in-force-at .ensures) (at .before .before .pre .place (at .loop .i) (omega (arith, at .loop .inv)) .demand)
 
 segments-in-requires : tie.Need-segments-in-requires Inv-loop μ-loop
 segments-in-requires c κs = tt
@@ -41,17 +43,44 @@ loop-less : tie.Need-loop-less Inv-loop μ-loop
 loop-less c = omega (arith, c .before .before .before .loop .inv, c .before .before .before .before .before .pre .segments .1)
 
 loop-again : tie.Need-loop-again Inv-loop μ-loop
-loop-again c = (omega arith, c .before .before .before .loop .inv .1, omega (arith, ramp-small (c .before), c .before .before .before .loop .inv), sum-more (λ j. inForceAt (conditionsIn (c .before .before .before .before .before .args .row .now)) j .demand) _ _ _ (c .before .before .before .loop .inv .3) (rw (c .before .in-force-at .ensures)))
+loop-again c =
+    let at = c .before .before .before in (
+      omega arith,
+      at .loop .inv .1,
+      omega (arith, ramp-small (c .before), at .loop .inv),
+      sum-more (λ j. inForceAt (conditionsIn (at .before .before .args .row .now)) j .demand) _ _ _ (at .loop .inv .3) (rw (c .before .in-force-at .ensures)),
+    )
 
 demand-in-requires : tie.Need-demand-in-requires Inv-loop μ-loop
 demand-in-requires c κs = tt
 
 add-result : tie.Need-add-result Inv-loop μ-loop
-add-result c = omega (arith, c .demand-in .ensures, c .before .before .before .before .pre .demand, c .before .before .loop .inv, c .before .before .before .before .pre .segments .1)
+add-result c =
+    let at = c .before .before in
+    let p = at .before .before .pre in
+    omega (arith, c .demand-in .ensures, p .demand, at .loop .inv, p .segments .1)
 
 returns : tie.Need-returns Inv-loop μ-loop
 unfolding arrivedOf
-returns c = let e : c .before .before .loop .i ≡ conditionsIn (c .before .before .before .before .args .row .now) .segments = omega (arith, c .before .before .loop .inv) in rw (c .before .before .loop .inv .3, c .demand-in .ensures, e)
+returns c =
+    let at = c .before .before in
+    let e : at .loop .i ≡ conditionsIn (at .before .before .args .row .now) .segments = omega (arith, at .loop .inv) in
+    rw (at .loop .inv .3, c .demand-in .ensures, e)
 
 pub arrived-spec : {M : Type 1} → statement M
-arrived-spec = tie.close (tie.spec Inv-loop μ-loop segments-in-requires cast-ns loop-holds in-force-at-requires add-sum add-i loop-less loop-again demand-in-requires add-result returns)
+arrived-spec =
+    tie.close
+    (tie.spec
+    Inv-loop
+    μ-loop
+    segments-in-requires
+    cast-ns
+    loop-holds
+    in-force-at-requires
+    add-sum
+    add-i
+    loop-less
+    loop-again
+    demand-in-requires
+    add-result
+    returns)

@@ -65,4 +65,25 @@ unfolding cellAt
 returns c = rw (add-zero (6 * c .before .before .before .before .before .before .args .i))
 
 pub cell-at-spec : {M : Type 1} → statement M
-cell-at-spec = tie.close (tie.spec mul-at mul-t4 element-copy-out-t7 add-t8 mul-t9 element-copy-out-t12 add-t13 mul-t14 element-copy-out-t17 add-t18 mul-t19 element-copy-out-t22 add-t23 mul-t24 element-copy-out-t27 add-t28 mul-t29 element-copy-out-t32 returns)
+cell-at-spec =
+    tie.close
+    (tie.spec
+    mul-at
+    mul-t4
+    element-copy-out-t7
+    add-t8
+    mul-t9
+    element-copy-out-t12
+    add-t13
+    mul-t14
+    element-copy-out-t17
+    add-t18
+    mul-t19
+    element-copy-out-t22
+    add-t23
+    mul-t24
+    element-copy-out-t27
+    add-t28
+    mul-t29
+    element-copy-out-t32
+    returns)

@@ -66,4 +66,25 @@ unfolding withCell puts
 returns c = rw (add-zero (6 * c .args .i))
 
 pub put-cell-spec : {M : Type 1} → statement M
-put-cell-spec = tie.close (tie.spec mul-at mul-cells element-write-cells add-cells mul-cells-2 element-write-cells-2 add-cells-2 mul-cells-3 element-write-cells-3 add-cells-3 mul-cells-4 element-write-cells-4 add-cells-4 mul-cells-5 element-write-cells-5 add-cells-5 mul-cells-6 element-write-cells-6 returns)
+put-cell-spec =
+    tie.close
+    (tie.spec
+    mul-at
+    mul-cells
+    element-write-cells
+    add-cells
+    mul-cells-2
+    element-write-cells-2
+    add-cells-2
+    mul-cells-3
+    element-write-cells-3
+    add-cells-3
+    mul-cells-4
+    element-write-cells-4
+    add-cells-4
+    mul-cells-5
+    element-write-cells-5
+    add-cells-5
+    mul-cells-6
+    element-write-cells-6
+    returns)

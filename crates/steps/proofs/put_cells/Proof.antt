@@ -4,10 +4,11 @@ use mathlib.Core.Path.{_≡_, refl, sym, _∙_}
 use native.Mathlib.Omega.{arith}
 use native.Mathlib.Numerals.{add-one}
 use lib.ListN.{length, getD, length-map}
-use Rattle.conditions.specs.Values.{values-are, values-length}
+use Rattle.conditions.proofs.Values.{values-are, values-length}
 use Rattle.steps.specs.Step.{noCell, replaced}
-use Rattle.steps.specs.CellRow.{cellsIn, cells-put, with-cell-length}
-use Rattle.steps.specs.Sums.{replaced-all}
+use Rattle.steps.specs.CellRow.{cellsIn}
+use Rattle.steps.proofs.CellRow.{cells-put, with-cell-length}
+use Rattle.steps.proofs.Sums.{replaced-all}
 use Rattle.steps.proofs.put_cells.Statement.{statement}
 use Rattle.steps.proofs.put_cells.Tie as tie
 
@@ -40,13 +41,18 @@ loop-again : tie.Need-loop-again Inv-loop μ-loop
 unfolding replaced
 loop-again c =
     let v = c .before .before .before .before .loop .inv in
-    rw (c .put-cell .ensures) (omega arith, with-cell-length _ _ _ ∙ v .1, cells-put _ _ _ (v .1) (c .before .before .before .loop-test .taken) ∙ rw (add-one, v .2))
+    rw (c .put-cell .ensures) (
+      omega arith,
+      with-cell-length _ _ _ ∙ v .1,
+      cells-put _ _ _ (v .1) (c .before .before .before .loop-test .taken) ∙ rw (add-one, v .2),
+    )
 
 returns : tie.Need-returns Inv-loop μ-loop
 returns c =
     let v = c .before .loop .inv in
     let e : c .before .loop .i ≡ 64 = omega (arith, v .0) in
-    let l : length (c .before .before .args .t2 .cells) ≡ 64 = sym (length-map (c .before .before .args .t2 .cells) _) ∙ c .before .before .good .1 .0 .1 .1 .0 .1 .0 .1 in
+    let l : length (c .before .before .args .t2 .cells) ≡ 64 =
+    sym (length-map (c .before .before .args .t2 .cells) _) ∙ c .before .before .good .1 .0 .1 .1 .0 .1 .0 .1 in
     let g = values-are (λ j. getD (c .before .before .args .t2 .cells) j noCell) 64 (c .before .before .args .t2 .cells) noCell l (λ j h. refl) in
     (v .2 ∙ rw e (replaced-all _ 64 _ noCell (values-length _ 64) ∙ g), v .1)
 

@@ -7,7 +7,7 @@ use lib.ListN.{length-replicate}
 use Rattle.steps.specs.declared.State.{State}
 use Rattle.steps.specs.Step.{noCell, freshState, replaced}
 use Rattle.steps.specs.CellRow.{cellAt}
-use Rattle.steps.specs.Sums.{replaced-all}
+use Rattle.steps.proofs.Sums.{replaced-all}
 use Rattle.steps.proofs.state_of.Statement.{statement}
 use Rattle.steps.proofs.state_of.Tie as tie
 

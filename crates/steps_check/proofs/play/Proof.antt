@@ -1,7 +1,7 @@
 -- The tests say that the rows are a road and its period.
 use mathlib.Core.Path.{sym, _∙_}
 use borrow.Author.Needs.{needs}
-use Rattle.sheets.specs.Good.{good-road, good-period}
+use Rattle.parts.proofs.Good.{good-road, good-period}
 use Rattle.steps_check.proofs.play.Statement.{statement}
 use Rattle.steps_check.proofs.play.Tie as tie
 
@@ -27,7 +27,14 @@ is-period-requires : tie.Need-is-period-requires
 is-period-requires c κs = search needs
 
 run-under-requires : tie.Need-run-under-requires
-run-under-requires c κs = let g = good-road _ (sym (c .before .before .before .before .before .before .before .is-road .ensures) ∙ c .before .before .before .before .before .before .if2 .taken) in (g, good-period _ _ g (sym (c .before .before .before .is-period .ensures) ∙ c .before .before .if3 .taken), c .before .before .before .before .before .before .before .before .before .before .before .before .before .before .before .before .before .pre)
+run-under-requires c κs =
+    let three = c .before .before in
+    let two = three .before .before .before .before in
+    let g = good-road _ (sym (two .before .is-road .ensures) ∙ two .if2 .taken) in (
+      g,
+      good-period _ _ g (sym (three .before .is-period .ensures) ∙ three .if3 .taken),
+      two .before .before .before .before .before .before .before .before .before .before .before .pre,
+    )
 
 returns : tie.Need-returns
 returns c = search needs

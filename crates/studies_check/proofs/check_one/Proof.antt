@@ -44,7 +44,9 @@ print-requires : tie.Need-print-requires
 print-requires c κs = search needs
 
 returns : tie.Need-returns
-returns c = omega (arith, c .before .before .before .before .before .before .before .before .part-at .ensures .3 (c .before .before .before .before .before .before .before .before .before .before .pre), c .before .before .before .part-at2 .ensures)
+returns c =
+    let first = c .before .before .before .before .before .before .before .before in
+    omega (arith, first .part-at .ensures .3 (first .before .before .pre), c .before .before .before .part-at2 .ensures)
 
 pub check-one-spec : {M : Type 1} → statement M
 check-one-spec =

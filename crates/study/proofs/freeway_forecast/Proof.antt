@@ -20,7 +20,10 @@ put-totals-requires c κs = search needs
 
 put-lines-requires : tie.Need-put-lines-requires
 put-lines-requires c κs =
-    let many : length (c .before .before .before .before .before .before .forecast .result .lines) ≡ 64 = ap (λ (x : Listing). length (x .lines)) (c .before .before .before .before .before .before .forecast .ensures) ∙ forecast-lines (now (c .before .before .before .before .before .before .before .before .before .before .args .study)) in
+    let forecast = c .before .before .before .before .before .before in
+    let many : length (forecast .forecast .result .lines) ≡ 64 =
+    ap (λ (x : Listing). length (x .lines)) (forecast .forecast .ensures)
+    ∙ forecast-lines (now (forecast .before .before .before .before .args .study)) in
     (many, omega (arith, c .before .before .before .put-totals .kept .1 .0, c .before .before .before .before .before .before .before .if1 .left))
 
 wide-byte-requires : tie.Need-wide-byte-requires
@@ -31,8 +34,13 @@ same-length c = search needs
 
 returns-2 : tie.Need-returns-2
 returns-2 c =
-    filled (now (c .before .before .before .before .before .before .before .before .before .before .before .before .before .before .args .study)) (now (c .before .before .before .before .before .before .before .before .before .before .before .before .before .before .args .out)) (c .before .before .before .before .before .before .before .before .before .before .before .if1 .left) (c .before .before .before .before .before .before .before .before .before .before .forecast .result) (c .before .before .before .before .before .before .before .before .before .before .forecast .ensures)
-    (c .before .before .before .before .before .before .before .put-totals .last .1 .0) (c .before .before .before .put-lines .last .1 .0) (c .wide-byte .result) (c .before .before .before .before .before .before .before .put-totals .ensures) (c .before .before .before .put-lines .ensures) (c .wide-byte .ensures)
+    let lines = c .before .before .before in
+    let totals = lines .before .before .before .before in
+    let forecast = totals .before .before .before in
+    let start = forecast .before .before .before .before in
+    filled (now (start .args .study)) (now (start .args .out)) (forecast .before .if1 .left) (forecast .forecast .result) (forecast .forecast .ensures)
+    (totals .put-totals .last .1 .0) (lines .put-lines .last .1 .0) (c .wide-byte .result)
+    (totals .put-totals .ensures) (lines .put-lines .ensures) (c .wide-byte .ensures)
 
 pub freeway-forecast-spec : {M : Type 1} → statement M
 freeway-forecast-spec =

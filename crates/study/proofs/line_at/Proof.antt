@@ -16,7 +16,8 @@ letter-byte-requires c κs = search needs
 returns : tie.Need-returns
 returns c =
     let start = c .before .before in
-    line-is (start .args .f) (start .args .i) (c .before .report .result) (c .letter-byte .result) (start .pre .0) (start .pre .1) (c .before .report .ensures) (c .letter-byte .ensures)
+    line-is (start .args .f) (start .args .i) (c .before .report .result) (c .letter-byte .result) (start .pre .0) (start .pre .1)
+    (c .before .report .ensures) (c .letter-byte .ensures)
 
 pub line-at-spec : {M : Type 1} → statement M
 line-at-spec = tie.close (tie.spec add-report report-requires letter-byte-requires returns)

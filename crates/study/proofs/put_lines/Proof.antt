@@ -4,13 +4,13 @@ use mathlib.Core.Path.{_≡_, refl, ap, _∙_}
 use native.Mathlib.Omega.{arith}
 use denote.Ref.{now}
 use lib.ListN.{length}
-use Rattle.numbers.specs.Stores.{stored}
+use Rattle.numbers.proofs.Stores.{storedTo}
 use Rattle.study.proofs.Numbers.{all, put-none, put-more, put-all}
 use Rattle.study.proofs.put_lines.Statement.{statement}
 use Rattle.study.proofs.put_lines.Tie as tie
 
 abbrev Inv-loop : tie.InvT-loop
-Inv-loop out₀ lines i₀ out i = (i ≤ 64) × (length out ≡ length out₀) × (out ≡ stored (all out₀ lines) out₀ (8 + 3 * i))
+Inv-loop out₀ lines i₀ out i = (i ≤ 64) × (length out ≡ length out₀) × (out ≡ storedTo (all out₀ lines) out₀ (8 + 3 * i))
 
 abbrev μ-loop : tie.MeasureT-loop
 μ-loop out₀ lines i₀ out i = 64 - i
@@ -41,10 +41,13 @@ loop-less c = omega arith
 
 loop-again : tie.Need-loop-again Inv-loop μ-loop
 loop-again c =
-    let out = now (c .before .before .before .before .before .before .before .before .args .out) in
-    let lines = c .before .before .before .before .before .before .before .before .args .t1 in
-    let more = put-more out lines (c .before .before .before .before .before .before .before .before .pre .0) (c .before .before .before .before .before .before .before .before .pre .1) (c .before .before .before .before .before .before .loop .i) (c .before .before .before .before .before .loop-test .taken) (c .before .before .before .before .before .before .loop .out) (c .before .before .before .before .before .before .loop .inv .2) in
-    (omega arith, omega (arith, c .before .before .put-line .kept .1 .0, c .before .before .before .before .before .before .loop .inv .1), c .before .before .put-line .ensures ∙ more)
+    let turn = c .before .before .before .before .before in
+    let at = turn .before in
+    let start = at .before .before in
+    let out = now (start .args .out) in
+    let lines = start .args .t1 in
+    let more = put-more out lines (start .pre .0) (start .pre .1) (at .loop .i) (turn .loop-test .taken) (at .loop .out) (at .loop .inv .2) in
+    (omega arith, omega (arith, c .before .before .put-line .kept .1 .0, at .loop .inv .1), c .before .before .put-line .ensures ∙ more)
 
 same-length : tie.Need-same-length Inv-loop μ-loop
 same-length c = c .before .loop .inv .1
@@ -54,7 +57,7 @@ returns c =
     let out = now (c .before .before .before .args .out) in
     let lines = c .before .before .before .args .t1 in
     let end : 8 + 3 * c .before .loop .i ≡ 200 = omega arith in
-    c .before .loop .inv .2 ∙ ap (stored (all out lines) out) end ∙ put-all out lines (c .before .before .before .pre .0) (c .before .before .before .pre .1)
+    c .before .loop .inv .2 ∙ ap (storedTo (all out lines) out) end ∙ put-all out lines (c .before .before .before .pre .0) (c .before .before .before .pre .1)
 
 pub put-lines-spec : {M : Type 1} → statement M
 put-lines-spec =

@@ -45,7 +45,9 @@ same-length c = search needs
 
 returns : tie.Need-returns
 returns c =
-    put-eight (c .before .before .before .before .args .x) (now (c .before .before .before .before .args .out)) (c .before .before .wide-byte .result) (c .before .wide .result) (c .wide2 .result) (omega (arith, c .before .before .before .before .pre)) (c .before .before .wide-byte .ensures) (c .before .wide .ensures) (c .wide2 .ensures)
+    let start = c .before .before .before .before in
+    put-eight (start .args .x) (now (start .args .out)) (c .before .before .wide-byte .result) (c .before .wide .result) (c .wide2 .result)
+    (omega (arith, start .pre)) (c .before .before .wide-byte .ensures) (c .before .wide .ensures) (c .wide2 .ensures)
 
 pub put-totals-spec : {M : Type 1} → statement M
 put-totals-spec =

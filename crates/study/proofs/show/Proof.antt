@@ -2,7 +2,7 @@
 use mathlib.Core.Path.{refl, ap, _∙_}
 use mathlib.Core.List.{List}
 use borrow.Author.Needs.{needs}
-use Rattle.sheets.specs.Parts.{roadGlobals}
+use Rattle.parts.specs.Parts.{roadGlobals}
 use Rattle.conditions.specs.Conditions.{segments}
 use Rattle.facility.specs.declared.Sums.{Sums}
 use Rattle.facility.specs.Calls.{totalsOf}
@@ -31,8 +31,28 @@ returns : tie.Need-returns
 unfolding shown roadGlobals
 returns c =
     let f = c .before .before .before .before .args .f in
-    ap (λ (s : Sums). record { refusal = 0; place = 0; segments = segments (f .road); arrived = s .arrived; left = s .left; stored = s .stored; partsteps = s .partsteps; origin = f .state .origin; lines = c .lines-of .result }) (c .before .totals .ensures)
-    ∙ ap (λ (l : List Line). record { refusal = 0; place = 0; segments = segments (f .road); arrived = totalsOf f .arrived; left = totalsOf f .left; stored = totalsOf f .stored; partsteps = totalsOf f .partsteps; origin = f .state .origin; lines = l }) (c .lines-of .ensures)
+    ap (λ (s : Sums). record {
+      refusal = 0;
+      place = 0;
+      segments = segments (f .road);
+      arrived = s .arrived;
+      left = s .left;
+      stored = s .stored;
+      partsteps = s .partsteps;
+      origin = f .state .origin;
+      lines = c .lines-of .result;
+    }) (c .before .totals .ensures)
+    ∙ ap (λ (l : List Line). record {
+      refusal = 0;
+      place = 0;
+      segments = segments (f .road);
+      arrived = totalsOf f .arrived;
+      left = totalsOf f .left;
+      stored = totalsOf f .stored;
+      partsteps = totalsOf f .partsteps;
+      origin = f .state .origin;
+      lines = l;
+    }) (c .lines-of .ensures)
 
 pub show-spec : {M : Type 1} → statement M
 show-spec =

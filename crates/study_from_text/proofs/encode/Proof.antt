@@ -27,13 +27,18 @@ put-requires : tie.Need-put-requires Inv-loop μ-loop
 put-requires c κs = tt
 
 same-length : tie.Need-same-length Inv-loop μ-loop
-same-length c = omega (arith, c .before .before .before .put .kept .0, c .before .before .before .before .before .before .before .before .before .before .loop .inv .2)
+same-length c =
+    let put = c .before .before .before in
+    omega (arith, put .put .kept .0, put .before .before .before .before .before .before .before .loop .inv .2)
 
 returns : tie.Need-returns Inv-loop μ-loop
 returns c = counts 0 (c .before .before .before .put .last .0) (omega arith)
 
 add-used : tie.Need-add-used Inv-loop μ-loop
-add-used c = omega (arith, c .before .before .before .put .ensures (c .before .before .before .before .before .before .before .before .before .before .loop .inv .1), c .before .before .before .before .before .before .before .before .before .before .before .before .before .good, c .before .before .before .before .before .before .before .before .before .before .loop .inv .2)
+add-used c =
+    let put = c .before .before .before in
+    let at = put .before .before .before .before .before .before .before in
+    omega (arith, put .put .ensures (at .loop .inv .1), at .before .before .before .good, at .loop .inv .2)
 
 enum-told : tie.Need-enum-told Inv-loop μ-loop
 enum-told c = search needs
@@ -60,7 +65,10 @@ loop-less : tie.Need-loop-less Inv-loop μ-loop
 loop-less c = omega arith
 
 loop-again : tie.Need-loop-again Inv-loop μ-loop
-loop-again c = (omega arith, omega (arith, c .before .before .before .put .ensures (c .before .before .before .before .before .before .before .before .before .before .loop .inv .1), c .before .before .before .put .kept .0), omega (arith, c .before .before .before .put .kept .0, c .before .before .before .before .before .before .before .before .before .before .loop .inv .2))
+loop-again c =
+    let put = c .before .before .before in
+    let v = put .before .before .before .before .before .before .before .loop .inv in
+    (omega arith, omega (arith, put .put .ensures (v .1), put .put .kept .0), omega (arith, put .put .kept .0, v .2))
 
 same-length-4 : tie.Need-same-length-4 Inv-loop μ-loop
 same-length-4 c = c .before .loop .inv .2

@@ -20,7 +20,10 @@ same-length : tie.Need-same-length
 same-length c = search needs
 
 returns : tie.Need-returns
-returns c = λ h. within (now (c .before .before .before .before .before .before .before .before .args .out)) _ (c .before .before .before .before .before .before .before .before .args .at) _ (sym (ap writing (c .before .n .given .1)) ∙ c .before .before .before .before .before .write .ensures .0)
+returns c =
+    let a = c .before .before .before .before .before .before .before .before .args in
+    let wrote = sym (ap writing (c .before .n .given .1)) ∙ c .before .before .before .before .before .write .ensures .0 in
+    λ h. within (now (a .out)) _ (a .at) _ wrote
 
 same-length-2 : tie.Need-same-length-2
 same-length-2 c = search needs

@@ -28,13 +28,20 @@ enum-told : tie.Need-enum-told Inv-loop μ-loop
 enum-told c = search needs
 
 returns : tie.Need-returns Inv-loop μ-loop
-returns c = rest-end (now (c .before .before .before .before .before .before .args .text)) (c .before .before .before .before .loop .count) (c .before .before .before .before .loop .at) (c .before .before .before .before .loop .inv) (c .before .before .before .loop-test .taken) (sym (c .enum-told .given .1) ∙ c .before .before .next .ensures)
+returns c =
+    let at = c .before .before .before .before in
+    rest-end (now (at .before .before .args .text)) (at .loop .count) (at .loop .at) (at .loop .inv) (c .before .before .before .loop-test .taken)
+    (sym (c .enum-told .given .1) ∙ c .before .before .next .ensures)
 
 enum-known-place-2 : tie.Need-enum-known-place-2 Inv-loop μ-loop
 enum-known-place-2 c = search needs
 
 returns-2 : tie.Need-returns-2 Inv-loop μ-loop
-returns-2 c = rest-bad (now (c .before .before .before .before .before .before .before .args .text)) (c .before .before .before .before .before .loop .count) (c .before .before .before .before .before .loop .at) (c .before .before .before .before .before .loop .inv) (c .before .before .before .before .loop-test .taken) _ (sym (c .before .place2 .given .1) ∙ c .before .before .before .next .ensures)
+returns-2 c =
+    let next = c .before .before .before in
+    let at = next .before .before in
+    rest-bad (now (at .before .before .args .text)) (at .loop .count) (at .loop .at) (at .loop .inv) (next .before .loop-test .taken) _
+    (sym (c .before .place2 .given .1) ∙ next .next .ensures)
 
 add-count : tie.Need-add-count Inv-loop μ-loop
 add-count c = omega arith
@@ -43,7 +50,11 @@ loop-less : tie.Need-loop-less Inv-loop μ-loop
 loop-less c = omega arith
 
 loop-again : tie.Need-loop-again Inv-loop μ-loop
-loop-again c = rest-more (now (c .before .before .before .before .before .before .before .args .text)) (c .before .before .before .before .before .loop .count) (c .before .before .before .before .before .loop .at) (c .before .before .before .before .before .loop .inv) (c .before .before .before .before .loop-test .taken) _ _ (sym (c .before .place .given .1) ∙ c .before .before .before .next .ensures)
+loop-again c =
+    let next = c .before .before .before in
+    let at = next .before .before in
+    rest-more (now (at .before .before .args .text)) (at .loop .count) (at .loop .at) (at .loop .inv) (next .before .loop-test .taken) _ _
+    (sym (c .before .place .given .1) ∙ next .next .ensures)
 
 returns-3 : tie.Need-returns-3 Inv-loop μ-loop
 returns-3 c = rest-none (now (c .before .before .before .args .text)) (c .before .loop .count) (c .before .loop .at) (c .before .loop .inv) (c .loop-test .left)

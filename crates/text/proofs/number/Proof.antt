@@ -30,8 +30,10 @@ cast-t12 c = omega (arith, c .before .before .before .before .loop .inv)
 
 returns : tie.Need-returns Inv-loop μ-loop
 returns c =
-    let l = c .before .before .before .before .loop in
-    sym (l .inv .2 ∙ digits-stop (now (c .before .before .before .before .before .before .args .text)) (l .i) (l .v) (c .before .before .before .loop-test .taken) (sym (c .before .is-digit .ensures) ∙ not-true _ (c .if1 .taken)))
+    let at = c .before .before .before .before in
+    let l = at .loop in
+    let stop = sym (c .before .is-digit .ensures) ∙ not-true _ (c .if1 .taken) in
+    sym (l .inv .2 ∙ digits-stop (now (at .before .before .args .text)) (l .i) (l .v) (c .before .before .before .loop-test .taken) stop)
 
 mul-next : tie.Need-mul-next Inv-loop μ-loop
 mul-next c = omega (arith, c .before .before .before .before .loop .inv)
@@ -47,7 +49,8 @@ returns-2 c =
     let l = c .before .before .before .before .before .before .loop in
     let s = now (c .before .before .before .before .before .before .before .before .args .text) in
     let large : 4294967295 < 10 * l .v + (getD s (l .i) 0 - 48) = omega (arith, c .before .digit .ensures .0) in
-    sym (l .inv .2 ∙ digits-large s (l .i) (l .v) (c .before .before .before .before .before .loop-test .taken) (sym (c .before .before .before .is-digit .ensures) ∙ not-false _ (c .before .before .if1 .left)) large)
+    let digit = sym (c .before .before .before .is-digit .ensures) ∙ not-false _ (c .before .before .if1 .left) in
+    sym (l .inv .2 ∙ digits-large s (l .i) (l .v) (c .before .before .before .before .before .loop-test .taken) digit large)
 
 add-i : tie.Need-add-i Inv-loop μ-loop
 add-i c = omega arith
@@ -60,8 +63,12 @@ loop-again c =
     let l = c .before .before .before .before .before .before .loop in
     let s = now (c .before .before .before .before .before .before .before .before .args .text) in
     let fits : 10 * l .v + (getD s (l .i) 0 - 48) ≤ 4294967295 = omega (arith, c .before .digit .ensures .0) in
-    let more = digits-more s (l .i) (l .v) (c .before .before .before .before .before .loop-test .taken) (sym (c .before .before .before .is-digit .ensures) ∙ not-false _ (c .before .before .if1 .left)) fits in
-    (omega arith, omega arith, l .inv .2 ∙ more ∙ ap (λ (d : ℕ). digitsFrom (10 * l .v + d) (l .i + 1) (drop (l .i + 1) s)) (sym (c .before .digit .ensures .0)))
+    let digit = sym (c .before .before .before .is-digit .ensures) ∙ not-false _ (c .before .before .if1 .left) in
+    let more = digits-more s (l .i) (l .v) (c .before .before .before .before .before .loop-test .taken) digit fits in (
+      omega arith,
+      omega arith,
+      l .inv .2 ∙ more ∙ ap (λ (d : ℕ). digitsFrom (10 * l .v + d) (l .i + 1) (drop (l .i + 1) s)) (sym (c .before .digit .ensures .0)),
+    )
 
 cast-t15 : tie.Need-cast-t15 Inv-loop μ-loop
 cast-t15 c = omega (arith, c .before .loop .inv)

@@ -28,8 +28,10 @@ is-blank-requires c κs = tt
 
 returns : tie.Need-returns Inv-loop μ-loop
 returns c =
-    let l = c .before .before .before .before .loop in
-    let stop = skip-stop (now (c .before .before .before .before .before .before .args .text)) (l .i) (l .inside) (c .before .before .before .loop-test .taken) (sym (c .before .is-blank .ensures) ∙ not-true _ (c .if1 .taken)) in
+    let at = c .before .before .before .before in
+    let l = at .loop in
+    let other = sym (c .before .is-blank .ensures) ∙ not-true _ (c .if1 .taken) in
+    let stop = skip-stop (now (at .before .before .args .text)) (l .i) (l .inside) (c .before .before .before .loop-test .taken) other in
     (sym (l .inv .2 ∙ stop), l .inv .0, l .inv .1)
 
 shared-slice-read-is-open : tie.Need-shared-slice-read-is-open Inv-loop μ-loop
@@ -48,7 +50,8 @@ loop-again : tie.Need-loop-again Inv-loop μ-loop
 loop-again c =
     let l = c .before .before .before .before .before .before .loop in
     let s = now (c .before .before .before .before .before .before .before .before .args .text) in
-    let more = skip-more s (l .i) (l .inside) (c .before .before .before .before .before .loop-test .taken) (sym (c .before .before .before .is-blank .ensures) ∙ not-false _ (c .before .before .if1 .left)) in
+    let blank = sym (c .before .before .before .is-blank .ensures) ∙ not-false _ (c .before .before .if1 .left) in
+    let more = skip-more s (l .i) (l .inside) (c .before .before .before .before .before .loop-test .taken) blank in
     (omega arith, omega arith, l .inv .2 ∙ more ∙ ap (λ (t : Bool). skipFrom t (l .i + 1) (drop (l .i + 1) s)) (sym (c .is-open .ensures)))
 
 returns-2 : tie.Need-returns-2 Inv-loop μ-loop

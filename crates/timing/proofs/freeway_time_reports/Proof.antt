@@ -5,7 +5,7 @@ use native.Mathlib.Omega.{arith}
 use Rattle.door.specs.declared.Facility.{Facility}
 use Rattle.facility.specs.declared.Reply.{Reply}
 use Rattle.steps.specs.Step.{sumTo}
-use Rattle.steps.specs.Sums.{sum-more}
+use Rattle.steps.proofs.Sums.{sum-more}
 use Rattle.facility.specs.declared.SegmentReport.{SegmentReport}
 use Rattle.facility.specs.Calls.{runOf, reportOf}
 use Rattle.timing.proofs.freeway_time_reports.Statement.{statement}
@@ -37,7 +37,9 @@ wide-requires : tie.Need-wide-requires Inv-loop μ-loop
 wide-requires c κs = tt
 
 add-sum : tie.Need-add-sum Inv-loop μ-loop
-add-sum c = omega (arith, c .wide .ensures .1, c .before .before .before .loop .inv .1, c .before .before .loop-test .taken, c .before .before .before .before .before .before .before .before .before .fits)
+add-sum c =
+    let at = c .before .before .before in
+    omega (arith, c .wide .ensures .1, at .loop .inv .1, c .before .before .loop-test .taken, at .before .before .before .before .before .before .fits)
 
 add-i : tie.Need-add-i Inv-loop μ-loop
 add-i c = omega (arith, c .before .before .loop-test .taken, c .before .before .before .before .before .before .before .before .before .fits)
@@ -47,15 +49,39 @@ loop-less c = omega (arith, c .before .before .loop-test .taken)
 
 loop-again : tie.Need-loop-again Inv-loop μ-loop
 loop-again c =
-    let v = c .before .before .before .loop .inv in
-    (omega (arith, c .before .before .loop-test .taken), omega (arith, v .1, c .wide .ensures .1), sum-more (λ j. reportOf (c .before .before .before .before .before .run .result .facility) (j % 64 + 1) .n) _ _ _ (v .2) (c .wide .ensures .0 ∙ ap (λ (r : SegmentReport). r .n) (c .before .report .ensures)))
+    let at = c .before .before .before in
+    let v = at .loop .inv in
+    let n = c .wide .ensures .0 ∙ ap (λ (r : SegmentReport). r .n) (c .before .report .ensures) in (
+      omega (arith, c .before .before .loop-test .taken),
+      omega (arith, v .1, c .wide .ensures .1),
+      sum-more (λ j. reportOf (at .before .before .run .result .facility) (j % 64 + 1) .n) _ _ _ (v .2) n,
+    )
 
 returns : tie.Need-returns Inv-loop μ-loop
 returns c =
     let v = c .before .loop .inv in
     let e : c .before .loop .i ≡ c .before .before .before .before .before .before .before .args .times = omega (arith, v .0, c .loop-test .left) in
-    let g : c .before .before .before .run .result .facility ≡ _ = ap (λ (r : Reply). r .facility) (c .before .before .before .run .ensures) ∙ ap (λ (f : Facility). runOf f 60 .facility) (c .before .before .before .before .begin .ensures) in
-    v .2 ∙ ap (sumTo (λ j. reportOf (c .before .before .before .run .result .facility) (j % 64 + 1) .n)) e ∙ ap (λ (f : Facility). sumTo (λ j. reportOf f (j % 64 + 1) .n) (c .before .before .before .before .before .before .before .args .times)) g
+    let run = c .before .before .before in
+    let g : run .run .result .facility ≡ _ =
+    ap (λ (r : Reply). r .facility) (run .run .ensures) ∙ ap (λ (f : Facility). runOf f 60 .facility) (run .before .begin .ensures) in
+    v .2
+    ∙ ap (sumTo (λ j. reportOf (run .run .result .facility) (j % 64 + 1) .n)) e
+    ∙ ap (λ (f : Facility). sumTo (λ j. reportOf f (j % 64 + 1) .n) (run .before .before .before .before .args .times)) g
 
 pub freeway-time-reports-spec : {M : Type 1} → statement M
-freeway-time-reports-spec = tie.close (tie.spec Inv-loop μ-loop begin-requires run-requires loop-holds add-report report-requires wide-requires add-sum add-i loop-less loop-again returns)
+freeway-time-reports-spec =
+    tie.close
+    (tie.spec
+    Inv-loop
+    μ-loop
+    begin-requires
+    run-requires
+    loop-holds
+    add-report
+    report-requires
+    wide-requires
+    add-sum
+    add-i
+    loop-less
+    loop-again
+    returns)

@@ -34,13 +34,31 @@ loop-less c = omega (arith, c .before .before .before .loop-test .taken)
 
 loop-again : tie.Need-loop-again Inv-loop μ-loop
 unfolding periodsOneByOne
-loop-again c = (omega (arith, c .before .before .before .loop-test .taken), rw (add-one, c .sixty-runs .ensures, c .before .before .take .ensures, c .before .before .before .before .loop .inv .1))
+loop-again c =
+    let turn = c .before .before .before in
+    (omega (arith, turn .loop-test .taken), rw (add-one, c .sixty-runs .ensures, c .before .before .take .ensures, turn .before .loop .inv .1))
 
 totals-requires : tie.Need-totals-requires Inv-loop μ-loop
 totals-requires c κs = tt
 
 returns : tie.Need-returns Inv-loop μ-loop
-returns c = let e : c .before .before .loop .i ≡ c .before .before .before .before .before .before .before .args .periods = omega (arith, c .before .before .loop .inv .0, c .before .loop-test .left) in rw (c .totals .ensures, c .before .before .loop .inv .1, e, c .before .before .before .before .lay .ensures)
+returns c =
+    let at = c .before .before in
+    let e : at .loop .i ≡ at .before .before .before .before .before .args .periods = omega (arith, at .loop .inv .0, c .before .loop-test .left) in
+    rw (c .totals .ensures, at .loop .inv .1, e, at .before .before .lay .ensures)
 
 pub freeway-time-steps-spec : {M : Type 1} → statement M
-freeway-time-steps-spec = tie.close (tie.spec Inv-loop μ-loop lay-requires loop-holds take-requires sixty-runs-requires add-i loop-less loop-again totals-requires returns)
+freeway-time-steps-spec =
+    tie.close
+    (tie.spec
+    Inv-loop
+    μ-loop
+    lay-requires
+    loop-holds
+    take-requires
+    sixty-runs-requires
+    add-i
+    loop-less
+    loop-again
+    totals-requires
+    returns)

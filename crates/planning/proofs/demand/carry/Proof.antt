@@ -6,11 +6,11 @@ use mathlib.Core.List.{_++_, append-nil}
 use Prim.Native.Nat.{_-_, _≤_}
 use denote.Ref.{now}
 use lib.ListN.{length, getD, drop, drop-of-length-le}
-use Rattle.planning.specs.declared.section.Section.{Section}
+use Rattle.sections.specs.declared.section.Section.{Section}
 use Rattle.planning.specs.Listing.{first}
-use Rattle.planning.specs.Section.{carriedOf}
+use Rattle.sections.specs.Section.{carriedOf}
 use Rattle.planning.specs.Facility.{carriedAt, carryoverOf}
-use Rattle.planning.proofs.Listed.{first-length, stored}
+use Rattle.planning.proofs.Listed.{first-length, store-next}
 use Rattle.planning.proofs.demand.carry.Statement.{statement}
 use Rattle.planning.proofs.demand.carry.Tie as tie
 
@@ -57,7 +57,8 @@ unfolding carriedAt
 loop-again c =
     let at = c .before .before .before in
     let args = c .before .before .before .before .before .args in
-    (omega arith, stored _ _ _ _ _ (omega arith) (at .loop .inv .1) (c .carried .ensures ∙ ap (λ (s : Section). carriedOf s (getD (args .t3) (at .loop .i) 0)) (c .before .section-at .ensures)))
+    let here = ap (λ (s : Section). carriedOf s (getD (args .t3) (at .loop .i) 0)) (c .before .section-at .ensures) in
+    (omega arith, store-next _ _ _ _ _ (omega arith) (at .loop .inv .1) (c .carried .ensures ∙ here))
 
 same-length : tie.Need-same-length Inv-loop μ-loop
 same-length c = long (c .before)

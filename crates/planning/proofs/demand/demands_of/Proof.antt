@@ -2,14 +2,14 @@
 use borrow.Author.Needs.{needs}
 use native.Mathlib.Omega.{arith}
 use mathlib.Core.Path.{_≡_, refl}
-use mathlib.Core.Bool.{true, false}
+use mathlib.Core.Bool.{true}
 use mathlib.Core.List.{_++_}
-use Prim.Native.Nat.{_+_, _-_, _≤_}
+use Prim.Native.Nat.{_-_, _≤_}
 use denote.Ref.{now}
 use lib.ListN.{drop, replicate}
 use Rattle.planning.specs.Listing.{first}
 use Rattle.planning.specs.Demand.{allWithin, demandAt, demandsOf, heldDemands}
-use Rattle.planning.proofs.Listed.{filled-is, stored}
+use Rattle.planning.proofs.Listed.{filled-is, store-next}
 use Rattle.planning.proofs.Sums.{Sum, sum-start, sum-more, sum-out}
 use Rattle.planning.proofs.demand.demands_of.Statement.{statement}
 use Rattle.planning.proofs.demand.demands_of.Tie as tie
@@ -36,8 +36,8 @@ shared-slice-read-next-demand c = search needs
 
 next-demand-requires : tie.Need-next-demand-requires Inv-loop μ-loop
 next-demand-requires c κs =
-    let sound = c .before .before .before .before .before .pre .2 _ (c .before .before .loop-test .taken) in
-    (c .before .before .before .loop .inv .1 .most, rw (c .before .section-at .ensures) sound)
+    let good = c .before .before .before .before .before .pre .2 _ (c .before .before .loop-test .taken) in
+    (c .before .before .before .loop .inv .1 .most, rw (c .before .section-at .ensures) good)
 
 enum-known-got : tie.Need-enum-known-got Inv-loop μ-loop
 enum-known-got c = search needs
@@ -59,8 +59,10 @@ loop-again c =
     let at = c .before .before .before .before .before .before .before .loop in
     let args = c .before .before .before .before .before .before .before .before .before .args in
     let demand = c .before .before .before .next-demand in
-    let more = sum-more (args .n) (args .row) (now (args .carryover)) (at .i) (at .d) (at .inv .1) _ (c .before .before .before .before .before .section-at .ensures) _ (demand .ensures) _ (c .before .got .given .1) in
-    (omega arith, more .0, stored _ _ _ _ _ (omega arith) (at .inv .2) (more .1))
+    let here = c .before .before .before .before .before .section-at .ensures in
+    let within = c .before .got .given .1 in
+    let more = sum-more (args .n) (args .row) (now (args .carryover)) (at .i) (at .d) (at .inv .1) _ here _ (demand .ensures) _ within in
+    (omega arith, more .0, store-next _ _ _ _ _ (omega arith) (at .inv .2) (more .1))
 
 enum-told : tie.Need-enum-told Inv-loop μ-loop
 enum-told c = search needs
@@ -71,9 +73,10 @@ returns c =
     let at = c .before .before .before .before .before .before .loop in
     let args = c .before .before .before .before .before .before .before .before .args in
     let demand = c .before .before .next-demand in
-    let out : allWithin (args .n) (args .row) (now (args .carryover)) (args .n) ≡ false =
-    sum-out (args .n) (args .row) (now (args .carryover)) (at .i) (at .d) (at .inv .1) _ (c .before .before .before .before .section-at .ensures) _ (demand .ensures) (c .before .before .before .before .before .loop-test .taken) (c .enum-told .given .1) in
-    rw out
+    let here = c .before .before .before .before .section-at .ensures in
+    let inside = c .before .before .before .before .before .loop-test .taken in
+    let outside = c .enum-told .given .1 in
+    rw (sum-out (args .n) (args .row) (now (args .carryover)) (at .i) (at .d) (at .inv .1) _ here _ (demand .ensures) inside outside)
 
 returns-2 : tie.Need-returns-2 Inv-loop μ-loop
 unfolding heldDemands demandsOf

@@ -1,4 +1,5 @@
 -- Below 0, above 1,000,000, or between: the difference of whole numbers.
+use native.Mathlib.Omega.{arith}
 use Rattle.planning.proofs.Sums.{next-below, next-above, next-within}
 use borrow.Author.Needs.{needs}
 use Rattle.planning.proofs.demand.next_demand.Statement.{statement}
@@ -20,7 +21,7 @@ returns : tie.Need-returns
 returns c = next-below _ (c .before .before .before .args .s) _ (c .if1 .taken)
 
 returns-2 : tie.Need-returns-2
-returns-2 c = next-above _ (c .before .before .before .before .args .s) _ (c .before .if1 .left) (c .if2 .taken)
+returns-2 c = next-above _ (c .before .before .before .before .args .s) _ (c .before .if1 .left) (omega (arith, c .if2 .taken))
 
 cast-t11 : tie.Need-cast-t11
 cast-t11 c = search needs

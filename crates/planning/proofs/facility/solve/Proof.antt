@@ -5,28 +5,32 @@ use mathlib.Core.Path.{_≡_, refl, ap, _∙_}
 use mathlib.Core.List.{_++_, map}
 use Prim.Native.Nat.{_*_, _-_, _≤_}
 use lib.ListN.{length, getD, drop, replicate, length-set}
-use Rattle.planning.specs.declared.section.Section.{Section}
+use Rattle.sections.specs.declared.section.Section.{Section}
 use Rattle.planning.specs.declared.facility.Totals.{Totals}
 use Rattle.planning.specs.Listing.{first}
-use Rattle.planning.specs.Section.{outcome, answerOf, noAnswer}
-use Rattle.planning.specs.Sheet.{sectionOf}
-use Rattle.planning.specs.Sound.{Sound}
+use Rattle.sections.specs.Section.{outcome, answerOf, noAnswer}
+use Rattle.planning_sheet.specs.Sheet.{sectionOf}
+use Rattle.sections.specs.Good.{GoodSection}
 use Rattle.planning.specs.Facility.{answerAt, answersOf, addedOf, totalsOf, told}
 use Rattle.planning.proofs.Areas.{area, totals-more, area-more}
-use Rattle.planning.proofs.Literals.{zero-is}
-use Rattle.planning.proofs.Listed.{filled-is, stored, map-set}
+use Rattle.sections.proofs.Literals.{zero-is}
+use Rattle.planning.proofs.Listed.{filled-is, store-next, map-set}
 use Rattle.planning.proofs.facility.solve.Statement.{statement}
 use Rattle.planning.proofs.facility.solve.Tie as tie
 
 abbrev Inv-loop : tie.InvT-loop
 Inv-loop n row each answers₀ totals₀ i₀ answers totals i =
-    (i ≤ n) × (length answers ≡ 64) × (map told answers ≡ first i (answerAt n row each) ++ drop i (replicate 64 noAnswer)) × (totals ≡ totalsOf n row each i) × (totals .area ≤ i * 211200)
+    (i ≤ n)
+    × (length answers ≡ 64)
+    × (map told answers ≡ first i (answerAt n row each) ++ drop i (replicate 64 noAnswer))
+    × (totals ≡ totalsOf n row each i)
+    × (totals .area ≤ i * 211200)
 
 abbrev μ-loop : tie.MeasureT-loop
 μ-loop n row each answers₀ totals₀ i₀ answers totals i = n - i
 
-sound : (c : tie.After-section-at Inv-loop μ-loop) → Sound (c .section-at .result)
-sound c = rw (c .section-at .ensures) (c .before .before .before .pre .1 _ (c .before .loop-test .taken))
+good : (c : tie.After-section-at Inv-loop μ-loop) → GoodSection (c .section-at .result)
+good c = rw (c .section-at .ensures) (c .before .before .before .pre .1 _ (c .before .loop-test .taken))
 
 loop-holds : tie.Need-loop-holds Inv-loop μ-loop
 unfolding first totalsOf
@@ -42,10 +46,10 @@ array-read-answer : tie.Need-array-read-answer Inv-loop μ-loop
 array-read-answer c = search needs
 
 answer-requires : tie.Need-answer-requires Inv-loop μ-loop
-answer-requires c κs = sound c
+answer-requires c κs = good c
 
 added-requires : tie.Need-added-requires Inv-loop μ-loop
-added-requires c κs = (omega arith, sound (c .before))
+added-requires c κs = (omega arith, good (c .before))
 
 mul-answers : tie.Need-mul-answers Inv-loop μ-loop
 mul-answers c = search needs
@@ -67,13 +71,15 @@ loop-again c =
     let s = sectionOf (args .n) (args .row) (at .loop .i) in
     let o = answerAt (args .n) (args .row) (args .t3) (at .loop .i) in
     let same : c .before .before .section-at .result ≡ s = c .before .before .section-at .ensures in
-    let told-is : outcome (c .before .answer .result) ≡ o = c .before .answer .ensures ∙ ap (λ (x : Section). answerOf x (getD (args .t3) (at .loop .i) 0)) same in
-    let next : c .added .result ≡ addedOf (at .loop .totals) s o = c .added .ensures ∙ rw (same, told-is) in (
+    let answered = ap (λ (x : Section). answerOf x (getD (args .t3) (at .loop .i) 0)) same in
+    let told-is : outcome (c .before .answer .result) ≡ o = c .before .answer .ensures ∙ answered in
+    let next : c .added .result ≡ addedOf (at .loop .totals) s o = c .added .ensures ∙ rw (same, told-is) in
+    let small = area s (c .before .before .before .before .before .pre .1 _ (c .before .before .before .loop-test .taken)) in (
       omega arith,
       simp length-set (at .loop .inv .1),
-      map-set told (at .loop .answers) (at .loop .i) _ ∙ stored _ _ _ _ _ (omega arith) (at .loop .inv .2) told-is,
+      map-set told (at .loop .answers) (at .loop .i) _ ∙ store-next _ _ _ _ _ (omega arith) (at .loop .inv .2) told-is,
       rw (totals-more (args .n) (args .row) (args .t3) (at .loop .i), ← at .loop .inv .3) next,
-      omega (arith, ap (λ (t : Totals). t .area) next, area-more (at .loop .totals) s o, area s (c .before .before .before .before .before .pre .1 _ (c .before .before .before .loop-test .taken))),
+      omega (arith, ap (λ (t : Totals). t .area) next, area-more (at .loop .totals) s o, small),
     )
 
 returns : tie.Need-returns Inv-loop μ-loop

@@ -1,0 +1,94 @@
+-- The conditions of a good road under a good sheet are good.
+use Prim.Native.Nat.{ℕ, _*_, _≤_, _<_}
+use mathlib.Core.Path.{_≡_, refl}
+use mathlib.Core.List.{List}
+use native.Mathlib.Nat.{mul-le-mul, mul-le-mul-left, mul-le-mul-right, sub-le}
+use native.Mathlib.Omega.{arith}
+use Rattle.parts.specs.declared.RoadGlobals.{RoadGlobals}
+use Rattle.parts.specs.declared.Segment.{Segment}
+use Rattle.parts.specs.declared.Ramp.{Ramp}
+use Rattle.parts.specs.Parts.{roadGlobals}
+use Rattle.parts.specs.Good.{GoodSegment, GoodRoad, GoodPeriod}
+use Rattle.conditions.proofs.Values.{values-at}
+use Rattle.conditions.specs.Conditions.{partsAt, loweredBy, inForce, SheetInForce, None, Under, demandUnder, outletUnder, rampUnder, segments, inForceOf, conditionsOf, inForceAt}
+use Rattle.conditions.specs.Good.{GoodPlace, GoodConditions, GoodGlobals}
+
+-- the sheet in force is one of the road's
+pub data GoodSheet (road : List ℕ) : SheetInForce → Type 0 where
+  none : GoodSheet road None
+  under : {period : List ℕ} → GoodPeriod road period → GoodSheet road (Under period)
+
+-- ---- J, Q and the lowered capacity
+lane-feet-least : (n l : ℕ) → 1 ≤ n → 300 ≤ l → 1 * 300 ≤ n * l
+lane-feet-least n l a b = mul-le-mul a b
+
+product : (k n l : ℕ) → k * n * l ≡ k * (n * l)
+product k n l = omega arith
+
+pub parts-most : (k n l : ℕ) → k ≤ 300 → n ≤ 8 → l ≤ 26400 → partsAt k n l ≤ 2880000
+unfolding partsAt
+parts-most k n l a b c = omega (arith, mul-le-mul (mul-le-mul a b) c)
+
+-- Q is below J
+pub critical-below-jam : (kj kc n l : ℕ) → 100 ≤ kj → kc ≤ 60 → 1 ≤ n → 300 ≤ l → partsAt kc n l < partsAt kj n l
+unfolding partsAt
+critical-below-jam kj kc n l a b c d =
+    omega
+    (arith, product kj n l, product kc n l, mul-le-mul-right (n * l) a, mul-le-mul-right (n * l) b, lane-feet-least n l c d)
+
+pub lowered-most : (a c : ℕ) → loweredBy a c ≤ c
+unfolding loweredBy
+lowered-most a c = omega (arith, mul-le-mul-left c (sub-le 100 a))
+
+-- ---- what is in force at a segment
+pub good-globals : (road : List ℕ) → GoodRoad road → GoodGlobals (roadGlobals road)
+good-globals road good = record { jam = good .jam; critical = good .critical; cut = good .cut }
+
+pub good-place : (g : RoadGlobals) (seg : Segment) (ramp : Ramp) → GoodGlobals g → GoodSegment seg → ramp .demand ≤ 10000 → GoodPlace (inForce g seg ramp)
+unfolding inForce
+good-place g seg ramp a b d = record {
+  length = (omega (arith, b .length .0), b .length .1);
+  speed = (omega (arith, b .speed .0), b .speed .1);
+  lanes = b .lanes;
+  capacity = b .capacity .1;
+  lowered = lowered-most _ _;
+  -- any density of the road is at most 300
+  jam = parts-most _ _ _ (omega (arith, a .jam .1, a .critical .1)) (b .lanes .1) (b .length .1);
+  critical = critical-below-jam _ _ _ _ (a .jam .0) (a .critical .1) (b .lanes .0) (b .length .0);
+  limit = omega (arith, b .onramp);
+  share = b .share;
+  offramp = b .offramp;
+  demand = d;
+}
+
+-- ---- the conditions of a road under a sheet
+pub conditions-segments : (road : List ℕ) (sheet : SheetInForce) → conditionsOf road sheet .segments ≡ segments road
+unfolding conditionsOf
+conditions-segments road sheet = refl
+
+pub in-force-at : (road : List ℕ) (sheet : SheetInForce) (i : ℕ) →
+    i < segments road →
+    inForceAt (conditionsOf road sheet) i ≡ inForceOf road sheet i
+unfolding conditionsOf
+in-force-at road sheet i h = values-at _ _ i _ h
+
+ramp-good : (road : List ℕ) (sheet : SheetInForce) → GoodSheet road sheet → (i : ℕ) → i < segments road → rampUnder sheet i .demand ≤ 10000
+unfolding rampUnder
+ramp-good road _ none i h = omega arith
+ramp-good road _ (under p) i h = p .ramp i h .0
+
+flows-good : (road : List ℕ) (sheet : SheetInForce) → GoodSheet road sheet → (demandUnder sheet ≤ 20000) × (outletUnder sheet ≤ 20000)
+unfolding demandUnder outletUnder
+flows-good road _ none = (omega arith, omega arith)
+flows-good road _ (under p) = (p .demand, p .outlet)
+
+pub good-conditions : (road : List ℕ) (sheet : SheetInForce) → GoodRoad road → GoodSheet road sheet → GoodConditions (conditionsOf road sheet)
+unfolding conditionsOf
+good-conditions road sheet good fits = record {
+  segments = good .segments;
+  demand = flows-good road sheet fits .0;
+  outlet = flows-good road sheet fits .1;
+  place = λ i h.
+      rw (values-at (inForceOf road sheet) (segments road) i)
+      (good-place _ _ _ (good-globals road good) (good .segment i h) (ramp-good road sheet fits i h));
+}

@@ -1,0 +1,5 @@
+pub mod Values
+pub mod Puts
+pub mod Row
+pub mod Good
+pub mod Filling

@@ -1,0 +1,3 @@
+pub mod Allowed
+pub mod Groups
+pub mod Good

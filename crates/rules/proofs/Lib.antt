@@ -1,0 +1,4 @@
+pub mod Formulas
+pub mod Largest
+pub mod Splits
+pub mod Closed

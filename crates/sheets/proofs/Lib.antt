@@ -1,0 +1,5 @@
+pub mod Ranges
+pub mod Turns
+pub mod Round
+pub mod Refusals
+pub mod Examples
