@@ -1,4 +1,4 @@
-// A facility as a value, and the test at the door: whether a laying and calls can have produced it.
+// A facility as a value, and the test at the door: what every facility has that a laying and calls can produce.
 use arithmetic::less;
 use arithmetic::wide;
 use segment::Cell;
@@ -70,7 +70,7 @@ fn are_sums_bounded(t: u64, arrived: u64, left: u64, partsteps: u64) -> bool
     (arrived <= 660000 * t) & ((left <= 660000 * t) & (partsteps <= 3801600000 * t))
 }
 
-// Whether a laying and calls can have produced the facility with these fields; any other is the empty one. Its rows are lent.
+// Whether the facility with these fields has what a laying and calls produce; any other is the empty one. Its rows are lent.
 pub fn fields_are_sound<'a>(
     road: &'a [u32; 452],
     period: &'a [u32; 452],

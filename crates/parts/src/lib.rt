@@ -60,7 +60,7 @@ fn is_ramp(row: &[u32; 452], i: usize) -> bool
     is_within(places::ramp_range(), row, k) & is_within(places::ramp_range(), row, k + 1)
 }
 
-// Whether a row is a road that the reading can give.
+// Whether the numbers that a road counts are in their ranges, as those of every reading are.
 pub fn is_road(row: &[u32; 452]) -> bool
     ensures { λ r. ⌜ r ≡ roadAllowed (now (row .entry)) ⌝ }
 {
@@ -74,7 +74,7 @@ pub fn is_road(row: &[u32; 452]) -> bool
     ok
 }
 
-// Whether a row is a period that the reading can give on a road.
+// The same of a period on a road.
 pub fn is_period(road: &[u32; 452], row: &[u32; 452]) -> bool
     ensures { λ r. ⌜ r ≡ periodAllowed (now (road .entry)) (now (row .entry)) ⌝ }
 {
