@@ -3,13 +3,13 @@
 // The buffer serves every study: the refusal of a longer one is decided within its first 26,200 bytes.
 fn main() {
     let mut buffer = io::large_buffer();
-    let length = io::read_full(0, &mut buffer);
-    if !input::is_whole(length, 65536) {
+    let got = input::read_to_end(0, &mut buffer);
+    let length = got.length;
+    if got.failed {
         io::write_all(2, b"forecast: cannot read the study\n");
         return;
     }
-    let shown = study::forecast(&buffer[..length]);
-    if !listing::print(shown) {
+    if !listing::print_study(&buffer[0..length]) {
         io::write_all(2, b"forecast: cannot write the listing\n");
     }
 }

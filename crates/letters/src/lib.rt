@@ -1,7 +1,7 @@
 // The level letter of a segment.
 ghost use mathlib.Core.Path.{_≡_};
 ghost use Prim.Native.Nat.{_≤_};
-ghost use Rattle.letters.specs.Level.{holdsAtMost, levelBy, levelOf};
+ghost use Rattle.letters.specs.Level.{holdsAtMost, levelBy, levelOf, letterByte};
 
 // The level letter.
 pub enum Level {
@@ -48,4 +48,18 @@ pub fn level_of(n: u32, length: u32, lanes: u32) -> Level
     ensures { λ r. ⌜ r ≡ levelOf n length lanes ⌝ }
 {
     level_by(n, arithmetic::wide(length) * arithmetic::wide(lanes))
+}
+
+// The byte of a letter.
+pub fn letter_byte(level: Level) -> u8
+    ensures { λ r. ⌜ r ≡ letterByte level ⌝ }
+{
+    match level {
+        Level::A => 65,
+        Level::B => 66,
+        Level::C => 67,
+        Level::D => 68,
+        Level::E => 69,
+        Level::F => 70,
+    }
 }

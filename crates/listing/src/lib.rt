@@ -41,7 +41,7 @@ fn print_refusal(number: u8, place: usize) -> bool {
 }
 
 // Prints to standard output, and answers whether all of it was written.
-pub fn print(x: Listing) -> bool {
+fn print(x: Listing) -> bool {
     if x.refusal != 0 {
         return print_refusal(x.refusal, x.place);
     }
@@ -52,4 +52,9 @@ pub fn print(x: Listing) -> bool {
         & print_named(b"partsteps ", x.partsteps)
         & print_named(b"origin ", x.origin as u64)
         & print_lines(x.segments, lines)
+}
+
+// Prints the forecast of a study.
+pub fn print_study(bytes: &[u8]) -> bool {
+    print(study::forecast(bytes))
 }

@@ -9,13 +9,14 @@ use lib.ListN.{length, replicate}
 use borrow.Author.Tests.{eq-eqb, ne-eqb}
 use Rattle.numbers.specs.Choice.{if_then_else_}
 use Rattle.planning_sheet.specs.declared.SectionsReading.{SectionsReading}
-use Rattle.planning.specs.declared.demand.Demands.{Demands}
-use Rattle.planning.specs.declared.facility.Totals.{Totals}
+use Rattle.demands.specs.declared.Demands.{Demands}
+use Rattle.solving.specs.declared.Totals.{Totals}
 use Rattle.sections.specs.Section.{Outcome}
 use Rattle.planning_sheet.specs.Sheet.{Reads, Sections, NoSections, readSheet, sectionsReading}
 use Rattle.planning_sheet.specs.Good.{GoodSections}
-use Rattle.planning.specs.Demand.{allWithin, demandsOf, heldDemands}
-use Rattle.planning.specs.Facility.{Letter, letterOf, answersOf, carryoverOf, totalsOf, facilityDensity}
+use Rattle.demands.specs.Demand.{allWithin, demandsOf, heldDemands}
+use Rattle.demands.specs.Carryover.{carryoverOf}
+use Rattle.solving.specs.Facility.{Letter, letterOf, answersOf, totalsOf, facilityDensity}
 use Rattle.planning.specs.Plan.{refusedPlan, acceptedPlan, planFrom, planOf}
 use Rattle.planning_sheet.proofs.Ranges.{sheet-good}
 

@@ -10,7 +10,7 @@ use borrow.Author.Tests.{eqb-true}
 use Rattle.numbers.specs.Choice.{if_then_else_}
 use Rattle.planning_sheet.specs.Sheet.{Reads, Sections, NoSections, readSheet}
 use Rattle.planning_sheet.proofs.Refusals.{NamedReads, named-sheet}
-use Rattle.planning.specs.Demand.{allWithin, demandsOf}
+use Rattle.demands.specs.Demand.{allWithin, demandsOf}
 use Rattle.planning.specs.Plan.{Plan, refusedPlan, acceptedPlan, planFrom, planOf}
 
 -- the sheet was read, the slice has its section count, and every demand is one that a section may have

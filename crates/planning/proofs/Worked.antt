@@ -7,13 +7,14 @@ use lib.ListN.{replicate}
 use Rattle.numbers.specs.Number.{last, more, groups, placed, readNumber}
 use Rattle.numbers.specs.Field.{inRange, readField}
 use Rattle.numbers.specs.Row.{fields, andThen, onto}
-use Rattle.planning.specs.Listing.{first}
+use Rattle.demands.specs.Listing.{first}
 use Rattle.sections.specs.Table.{tabled, rowOf, row75, row70, row65, row60, row55}
 use Rattle.sections.specs.Section.{queued, noAnswer, workOf, judgedOf, answerOf, capacityOf, carriedOf, ratioOf, curveOf, underOf, overOf, travelOf, speedOf, densityOf}
 use Rattle.sections.proofs.Worked.{bits}
 use Rattle.planning_sheet.specs.Sheet.{sectionField, allowedAt, heldTo, fieldAt, sectionsOf, sectionsFrom, sheetFrom, readSheet, sectionOf}
-use Rattle.planning.specs.Demand.{demandOf, allWithin, demandAt, demandsOf}
-use Rattle.planning.specs.Facility.{F, answerAt, answersOf, carriedAt, carryoverOf, addedOf, totalsOf, facilityDensity, letterOf}
+use Rattle.demands.specs.Demand.{demandOf, allWithin, demandAt, demandsOf}
+use Rattle.demands.specs.Carryover.{carriedAt, carryoverOf}
+use Rattle.solving.specs.Facility.{F, answerAt, answersOf, addedOf, totalsOf, facilityDensity, letterOf}
 use Rattle.planning.specs.Plan.{refusedPlan, acceptedPlan, planFrom, planOf}
 
 -- a sheet of two sections, both queued and with a carryover: the new one replaces the old

@@ -1,4 +1,1 @@
-pub mod Listing
-pub mod Demand
-pub mod Facility
 pub mod Plan

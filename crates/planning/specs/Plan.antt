@@ -10,8 +10,9 @@ use Rattle.planning.specs.declared.Planned.{Planned}
 use Rattle.sections.specs.Real.{real}
 use Rattle.sections.specs.Section.{Outcome, noAnswer}
 use Rattle.planning_sheet.specs.Sheet.{Reads, Sections, NoSections, readSheet}
-use Rattle.planning.specs.Demand.{allWithin, demandsOf}
-use Rattle.planning.specs.Facility.{Letter, A, letter, letterOf, told, answersOf, carryoverOf, totalsOf, facilityDensity}
+use Rattle.demands.specs.Demand.{allWithin, demandsOf}
+use Rattle.demands.specs.Carryover.{carryoverOf}
+use Rattle.solving.specs.Facility.{Letter, A, letter, letterOf, told, answersOf, totalsOf, facilityDensity}
 
 -- what the call gives: a refusal's number (0 for none) and offset, the bytes used, the section answers, the facility's density and
 -- letter, and the carryover slice

@@ -1,29 +1,14 @@
 // The planning sheet: from a sheet's bytes and the carryover of the period before to each section's answer, the facility's density and
 // level of service, and the carryover of this period.
-mod demand;
-mod facility;
-
 use sections::Answer;
+use solving::Done;
+use solving::Service;
 ghost use mathlib.Core.Path.{_≡_};
 ghost use Prim.Native.Nat.{ℕ, _≤_};
 ghost use mathlib.Core.List.{List};
 ghost use lib.ListN.{length};
 ghost use Rattle.planning_sheet.specs.Good.{GoodSections};
 ghost use Rattle.planning.specs.Plan.{planned, refusedPlan, acceptedPlan, planOf};
-
-pub struct Done {
-    pub answer: Answer,
-}
-
-// The level of service.
-pub enum Service {
-    A,
-    B,
-    C,
-    D,
-    E,
-    F,
-}
 
 // What a sheet gives: a refusal's number, 0 for none, and its offset; the bytes used; an answer for each section, free with zeros past
 // the section count; the facility's density and letter.
@@ -65,12 +50,12 @@ fn accepted(
     requires { ⌜ (n ≤ 64) × (length (now carryover) ≡ n) × GoodSections n row ⌝ }
     ensures { λ r. ⌜ planned r (now (carryover .exit)) ≡ acceptedPlan n row used each ⌝ }
 {
-    let solved = facility::solve(n, row, each);
+    let solved = solving::solve(n, row, each);
     let answers = solved.answers;
     let totals = solved.totals;
-    let density = facility::density(totals);
-    let letter = facility::service(density, totals.queued);
-    demand::carry(n, row, each, carryover);
+    let density = solving::density(totals);
+    let letter = solving::service_of(density, totals.queued);
+    demands::carry(n, row, each, carryover);
     Planned {
         refusal: 0,
         offset: 0,
@@ -94,7 +79,7 @@ pub fn plan(bytes: &[u8], carryover: &mut [u32]) -> Planned
     if carryover.len() != n {
         return refused(8, 0);
     }
-    let held = demand::demands_of(n, row, &carryover[..]);
+    let held = demands::demands_of(n, row, &carryover[..]);
     if !held.fit {
         return refused(15, 0);
     }

@@ -1,122 +1,85 @@
-// Plays planning sheets from standard input, one a line: a name, the sheet's bytes in hexadecimal, and the carryover, where `=` is what
-// the sheet before left. Writes each with what it gives: every f64 as the 16 hexadecimal digits of its bits, and a line for each section.
-use planning::Done;
-use planning::Service;
+// Plays planning sheets from standard input, one a line: a name, the sheet's bytes in hexadecimal, `carry`, and the carryover: numbers with
+// commas between them, `-` for none, or `=` for what the sheet before left. Prints each with what it gives: every f64 as the 16 hexadecimal
+// digits of its bits, and a line for each section. A carryover has at most 65 numbers; a record that is none leaves none.
+use records::Record;
+use records::say;
+use records::say_number;
 use sections::Answer;
+use solving::Done;
+use solving::Service;
+use text::Numeral;
 ghost use Prim.Native.Nat.{_≤_, _<_};
 ghost use lib.ListN.{length};
 
-// Where a number of a list ends, and its value.
-struct Parsed {
-    value: u32,
-    next: usize,
+// How many numbers a list gave; one that is no list of numbers, or has too many, is not fine.
+struct Listed {
+    fine: bool,
+    count: usize,
 }
 
-// The first place from `from` on that holds b, or the end.
-fn find(text: &[u8], from: usize, b: u8) -> usize
-    ensures { λ r. ⌜ r ≤ length (now (text .entry)) ⌝ }
+// The place of the first comma from a place on, or the end.
+fn comma(list: &[u8], from: usize) -> usize
+    requires { ⌜ from ≤ length (now list) ⌝ }
+    ensures { λ r. ⌜ (from ≤ r) × (r ≤ length (now (list .entry))) ⌝ }
 {
     let mut i = from;
-    while i < text.len() {
-        if text[i] == b {
+    while i < list.len() {
+        if list[i] == b',' {
             return i;
         }
         i += 1;
     }
-    text.len()
+    i
 }
 
-// A digit's value, decimal or hexadecimal in small letters.
-fn digit(b: u8) -> u64
-    ensures { λ r. ⌜ r < 16 ⌝ }
+// The numbers of a list, put at the start of out.
+fn unlist(list: &[u8], out: &mut [u32]) -> Listed
+    ensures { λ r. ⌜ r .count ≤ length (now (out .exit)) ⌝ }
 {
-    if b < 58 {
-        return (b % 16) as u64;
-    }
-    (b % 16) as u64 % 7 + 9
-}
-
-// The bytes that are written in hexadecimal between two places, put at the start of out.
-fn unhex(text: &[u8], from: usize, to: usize, out: &mut [u8]) -> usize
-    requires { ⌜ to ≤ length (now text) ⌝ }
-    ensures { λ r. ⌜ r ≤ length (now (out .exit)) ⌝ }
-{
-    let mut i = from;
+    let mut i: usize = 0;
     let mut n: usize = 0;
     while n < out.len() {
-        if to <= i {
-            return n;
+        let to = comma(list, i);
+        match text::number(&list[i..to]) {
+            Numeral::Value(value) => {
+                out[n] = value;
+            }
+            Numeral::Other => {
+                return Listed {
+                    fine: false,
+                    count: 0,
+                };
+            }
         }
-        if to - i < 2 {
-            return n;
-        }
-        let high = digit(text[i]);
-        let low = digit(text[i + 1]);
-        out[n] = (high * 16 + low) as u8;
-        i += 2;
         n += 1;
-    }
-    n
-}
-
-// The number that starts at a place of a list, and the place after its comma.
-fn number(text: &[u8], from: usize, to: usize) -> Parsed
-    requires { ⌜ to ≤ length (now text) ⌝ }
-{
-    let mut value: u64 = 0;
-    let mut i = from;
-    while i < to {
-        if text[i] == b',' {
-            return Parsed {
-                value: value as u32,
-                next: i + 1,
+        if list.len() <= to {
+            return Listed {
+                fine: true,
+                count: n,
             };
         }
-        value = (value * 10 + digit(text[i])) % 4294967296;
-        i += 1;
+        i = to + 1;
     }
-    Parsed {
-        value: value as u32,
-        next: to,
+    Listed {
+        fine: false,
+        count: 0,
     }
-}
-
-// The numbers of the list between two places, put at the start of out.
-fn unlist(text: &[u8], from: usize, to: usize, out: &mut [u32]) -> usize
-    requires { ⌜ to ≤ length (now text) ⌝ }
-    ensures { λ r. ⌜ r ≤ length (now (out .exit)) ⌝ }
-{
-    let mut i = from;
-    let mut n: usize = 0;
-    while n < out.len() {
-        if to <= i {
-            return n;
-        }
-        if text[i] == b'-' {
-            return n;
-        }
-        let p = number(text, i, to);
-        out[n] = p.value;
-        i = p.next;
-        n += 1;
-    }
-    n
 }
 
 // The bits of an f64.
 fn put_bits(x: f64) {
     if x != x {
-        io::write_all(1, b" nan");
+        say(b" nan");
         return;
     }
-    io::write_all(1, b" ");
+    say(b" ");
     io::print_hex(1, f64::to_bits(x), 16);
 }
 
 fn put_answer(a: Answer) {
     match a {
         Answer::Free { speed, density } => {
-            io::write_all(1, b" free");
+            say(b" free");
             put_bits(speed);
             put_bits(density);
         }
@@ -125,7 +88,7 @@ fn put_answer(a: Answer) {
             speed,
             density,
         } => {
-            io::write_all(1, b" slowed");
+            say(b" slowed");
             put_bits(under);
             put_bits(speed);
             put_bits(density);
@@ -136,7 +99,7 @@ fn put_answer(a: Answer) {
             speed,
             density,
         } => {
-            io::write_all(1, b" queued");
+            say(b" queued");
             put_bits(under);
             put_bits(over);
             put_bits(speed);
@@ -152,26 +115,24 @@ fn put_answers(answers: [Done; 64], n: usize) {
         if n <= i {
             return;
         }
-        io::write_all(1, b"  ");
-        io::print_decimal(1, i as u64 + 1);
+        say_number(b"  ", i as u64 + 1);
         let done = answers[i];
         let a = done.answer;
         put_answer(a);
-        io::write_all(1, b"\n");
+        say(b"\n");
         i += 1;
     }
 }
 
 fn put_letter(s: Service) {
     match s {
-        Service::A => io::write_all(1, b"A"),
-        Service::B => io::write_all(1, b"B"),
-        Service::C => io::write_all(1, b"C"),
-        Service::D => io::write_all(1, b"D"),
-        Service::E => io::write_all(1, b"E"),
-        Service::F => io::write_all(1, b"F"),
+        Service::A => say(b"A"),
+        Service::B => say(b"B"),
+        Service::C => say(b"C"),
+        Service::D => say(b"D"),
+        Service::E => say(b"E"),
+        Service::F => say(b"F"),
     }
-    ;
 }
 
 fn wide(x: u32) -> u64 {
@@ -181,93 +142,145 @@ fn wide(x: u32) -> u64 {
 // The numbers with commas between them, or `-` for none.
 fn put_list(xs: &[u32]) {
     if xs.len() == 0 {
-        io::write_all(1, b"-");
+        say(b"-");
         return;
     }
     let mut i: usize = 0;
     while i < xs.len() {
         if 0 < i {
-            io::write_all(1, b",");
+            say(b",");
         }
         io::print_decimal(1, wide(xs[i]));
         i += 1;
     }
 }
 
+fn put_facility(used: usize, density: f64, letter: Service) {
+    say_number(b"ok used ", used as u64);
+    say(b" density");
+    put_bits(density);
+    say(b" letter ");
+    put_letter(letter);
+}
+
 // What a sheet gives with a carryover, and the carryover after it.
 fn put_plan(bytes: &[u8], carryover: &mut [u32]) {
     let got = planning::plan(bytes, carryover);
     if got.refusal != 0 {
-        io::write_all(1, b" -> refused ");
-        io::print_decimal(1, got.refusal as u64);
-        io::write_all(1, b" ");
-        io::print_decimal(1, got.offset as u64);
-        io::write_all(1, b"\n");
+        records::say_refused(got.refusal, got.offset);
+        say(b"\n");
         return;
     }
-    io::write_all(1, b" -> ok used ");
-    io::print_decimal(1, got.used as u64);
-    io::write_all(1, b" density");
-    put_bits(got.density);
-    io::write_all(1, b" letter ");
     let letter = got.letter;
-    put_letter(letter);
-    io::write_all(1, b" carry ");
+    put_facility(got.used, got.density, letter);
+    say(b" carry ");
     put_list(carryover);
-    io::write_all(1, b"\n");
+    say(b"\n");
     let answers = got.answers;
     put_answers(answers, carryover.len());
 }
 
-// The carryover that a line gives, put at the start of the slice; `=` leaves it as the last sheet left it. How many sections it has.
-fn take_carryover(text: &[u8], from: usize, to: usize, slice: &mut [u32], count: usize) -> usize
-    requires { ⌜ (to ≤ length (now text)) × (count ≤ length (now slice)) ⌝ }
-    ensures { λ r. ⌜ r ≤ length (now (slice .exit)) ⌝ }
+// The carryover of the one word that is left of a record, put at the start of the slice; `=` leaves it as the last sheet left it.
+fn take_carryover(rest: &[u8], slice: &mut [u32], count: usize) -> Listed
+    requires { ⌜ count ≤ length (now slice) ⌝ }
+    ensures { λ r. ⌜ r .count ≤ length (now (slice .exit)) ⌝ }
 {
-    if from < to {
-        if text[from] == b'=' {
-            return count;
-        }
+    let list = records::only_word(rest);
+    let start = list.start;
+    let end = list.end;
+    if text::same(&rest[start..end], b"=") {
+        return Listed { fine: true, count };
     }
-    unlist(text, from, to, slice)
+    if text::same(&rest[start..end], b"-") {
+        return Listed {
+            fine: true,
+            count: 0,
+        };
+    }
+    unlist(&rest[start..end], slice)
 }
 
-// Plays the sheet of the line that starts at a place and ends at another. How many sections its carryover has.
-fn play_line(text: &[u8], at: usize, end: usize, slice: &mut [u32], count: usize) -> usize
-    requires { ⌜ (end ≤ length (now text)) × (count ≤ length (now slice)) ⌝ }
+// Plays a sheet with a carryover.
+fn play_sheet(word: &[u8], carryover: &mut [u32]) {
+    let mut bytes = io::large_buffer();
+    let given = records::bytes_of(word, &mut bytes);
+    let n = given.count;
+    say(b" ");
+    put_list(carryover);
+    say(b" -> ");
+    if !given.fine {
+        say(b"not a sheet's bytes\n");
+        return;
+    }
+    put_plan(&bytes[0..n], carryover);
+}
+
+// Plays a sheet with the carryover that the rest of its record says. How many sections the carryover has after it.
+fn play_with(word: &[u8], rest: &[u8], slice: &mut [u32], count: usize) -> usize
+    requires { ⌜ count ≤ length (now slice) ⌝ }
     ensures { λ r. ⌜ r ≤ length (now (slice .exit)) ⌝ }
 {
-    let name = find(text, at, b' ');
-    let hex = find(text, name + 1, b' ');
-    let word = find(text, hex + 1, b' ');
-    let mut bytes = [0u8; 1024];
-    let n = unhex(text, name + 1, hex, &mut bytes);
-    let k = take_carryover(text, word + 1, end, slice, count);
-    if at <= word {
-        io::write_all(1, &text[at..word]);
+    let given = take_carryover(rest, slice, count);
+    let k = given.count;
+    if !given.fine {
+        records::say_record(rest);
+        say(b"not a record\n");
+        return 0;
     }
-    io::write_all(1, b" ");
-    put_list(&slice[..k]);
-    put_plan(&bytes[..n], &mut slice[..k]);
+    play_sheet(word, &mut slice[0..k]);
     k
 }
 
-fn play(text: &[u8]) {
-    let mut slice = [0u32; 65];
-    let mut count: usize = 0;
-    let mut at: usize = 0;
-    while at < text.len() {
-        let end = find(text, at, b'\n');
-        count = play_line(text, at, end, &mut slice, count);
-        if end < at {
-            return;
-        }
-        at = end + 1;
+// Plays a record: a name, bytes, `carry` and a carryover.
+fn play(record: &[u8], slice: &mut [u32], count: usize) -> usize
+    requires { ⌜ count ≤ length (now slice) ⌝ }
+    ensures { λ r. ⌜ r ≤ length (now (slice .exit)) ⌝ }
+{
+    let name = text::next_word(record, 0);
+    let hex = text::next_word(record, name.end);
+    let a = hex.start;
+    let b = hex.end;
+    let mark = text::next_word(record, b);
+    let c = mark.start;
+    let d = mark.end;
+    say(&record[0..d]);
+    if text::same(&record[c..d], b"carry") {
+        return play_with(&record[a..b], &record[d..], slice, count);
     }
+    records::say_record(&record[d..]);
+    say(b"not a record\n");
+    0
+}
+
+// Plays the record of a line.
+fn play_line(line: &[u8], next: Record, slice: &mut [u32], count: usize) -> usize
+    requires { ⌜ count ≤ length (now slice) ⌝ }
+    ensures { λ r. ⌜ r ≤ length (now (slice .exit)) ⌝ }
+{
+    let from = next.start;
+    let to = next.end;
+    if line.len() < to {
+        return 0;
+    }
+    if to < from {
+        return 0;
+    }
+    play(&line[from..to], slice, count)
 }
 
 fn main() {
-    let mut text = io::large_buffer();
-    let n = io::read_full(0, &mut text);
-    play(&text[..n]);
+    let mut chunk = io::buffer();
+    let mut line = input::line_room();
+    let mut next = records::next(records::start(), &mut chunk, &mut line);
+    let mut slice = [0u32; 65];
+    let mut count: usize = 0;
+    let mut turns = u64::MAX;
+    while turns > 0 {
+        if next.end <= next.start {
+            return;
+        }
+        count = play_line(&line, next, &mut slice, count);
+        next = records::next(next, &mut chunk, &mut line);
+        turns -= 1;
+    }
 }

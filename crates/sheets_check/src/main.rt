@@ -1,127 +1,103 @@
-// Reads and writes numbers and sheets, good and damaged, as the records on standard input say, and prints each answer.
-// A record: what to do, a place (2 bytes, low first), a buffer's size (2 bytes), a count (2 bytes) and so many bytes.
+// Reads and writes numbers and sheets, good and damaged, as the records on standard input say, one a line, and prints each with its answer:
+//     read-number HEX PLACE    write-number VALUE ROOM PLACE    read-road HEX    read-period HEX NS
+//     write-road HEX ROOM PLACE    write-period HEX ROOM PLACE
+// Numbers that are not given are 0, and those that a call has no use for are not looked at.
+// HEX is bytes in hexadecimal, `-` for none; a sheet is written after it is read. A buffer has ROOM bytes aa, up to 1,024, and is printed whole.
 use numbers::Number;
 use numbers::Written;
+use records::Numbers;
+use records::Record;
+use records::say;
+use records::say_number;
 use sheets::Layout;
 use sheets::SheetReading;
-ghost use Prim.Native.Nat.{_+_, _<_, _≤_};
-ghost use lib.ListN.{length};
+use text::Numeral;
 
-// The byte at a place, 0 past the end.
-fn byte(input: &[u8], at: usize) -> u8 {
-    if at < input.len() { input[at] } else { 0 }
+enum Call {
+    ReadNumber,
+    WriteNumber,
+    ReadRoad,
+    ReadPeriod,
+    WriteRoad,
+    WritePeriod,
+    Other,
 }
 
-fn wide(b: u8) -> usize
-    ensures { λ r. ⌜ r < 256 ⌝ }
-{
-    b as usize
+// A call that writes.
+fn writing_of(name: &[u8]) -> Call {
+    if text::same(name, b"write-number") {
+        return Call::WriteNumber;
+    }
+    if text::same(name, b"write-road") {
+        return Call::WriteRoad;
+    }
+    if text::same(name, b"write-period") {
+        return Call::WritePeriod;
+    }
+    Call::Other
 }
 
-// The two-byte number at a place.
-fn pair(input: &[u8], at: usize) -> usize
-    requires { ⌜ at < 65536 ⌝ }
-    ensures { λ r. ⌜ r < 65536 ⌝ }
-{
-    wide(byte(input, at)) + 256 * wide(byte(input, at + 1))
-}
-
-fn space() {
-    io::write_all(1, b" ");
-}
-
-fn line() {
-    io::write_all(1, b"\n");
+fn call_of(name: &[u8]) -> Call {
+    if text::same(name, b"read-number") {
+        return Call::ReadNumber;
+    }
+    if text::same(name, b"read-road") {
+        return Call::ReadRoad;
+    }
+    if text::same(name, b"read-period") {
+        return Call::ReadPeriod;
+    }
+    writing_of(name)
 }
 
 fn say_refused(number: u8) {
-    io::write_all(1, b"refused ");
-    io::print_decimal(1, number as u64);
+    say_number(b"refused ", number as u64);
 }
 
-fn say_number(got: Number) {
+fn say_read(got: Number) {
     match got {
         Number::Value { value, next } => {
-            io::write_all(1, b"value ");
-            io::print_decimal(1, value as u64);
-            io::write_all(1, b" next ");
-            io::print_decimal(1, next as u64);
+            say_number(b"value ", value as u64);
+            say_number(b" next ", next as u64);
         }
         Number::Refused(number) => say_refused(number),
     }
-    line();
 }
 
-// The first bytes, so many.
-fn say_bytes(bytes: &[u8], count: usize) {
-    let mut i = 0;
-    while i < bytes.len() {
-        if count <= i {
-            break;
-        }
-        io::print_hex(1, wide(bytes[i]) as u64, 2);
-        i += 1;
-    }
-    line();
-}
-
-fn say_written(done: Written, buffer: &[u8], size: usize) {
+fn say_written(done: Written, buffer: &[u8]) {
     match done {
-        Written::Count(n) => {
-            io::write_all(1, b"count ");
-            io::print_decimal(1, n as u64);
-        }
+        Written::Count(n) => say_number(b"count ", n as u64),
         Written::Refused(number) => say_refused(number),
     }
-    space();
-    say_bytes(buffer, size);
+    say(b" ");
+    records::say_bytes(buffer);
 }
 
 // A sheet's numbers, or its refusal and offset; a refused one that is not all zeros says so.
 fn say_sheet(sheet: SheetReading, count: usize) {
     let row = sheet.row;
     if sheet.refusal == 0 {
-        io::write_all(1, b"used ");
-        io::print_decimal(1, sheet.used as u64);
+        say_number(b"used ", sheet.used as u64);
     } else {
-        say_refused(sheet.refusal);
-        space();
-        io::print_decimal(1, sheet.offset as u64);
+        records::say_refused(sheet.refusal, sheet.offset);
     }
-    let mut k = 0;
+    let mut k: usize = 0;
     while k < 452 {
         let value = row[k];
         if k < count {
-            space();
-            io::print_decimal(1, value as u64);
+            say_number(b" ", value as u64);
         } else {
             if value != 0 {
-                io::write_all(1, b" not zero");
+                say(b" not zero");
             }
         }
         k += 1;
     }
-    line();
 }
 
 // The numbers to print: none of a refused sheet.
 fn shown(refusal: u8, count: usize) -> usize {
     if refusal == 0 { count } else { 0 }
-}
-
-fn read_number(place: usize, bytes: &[u8]) {
-    say_number(numbers::read(bytes, place));
-}
-
-fn write_number(buffer: &mut [u8], place: usize, size: usize, bytes: &[u8]) {
-    if buffer.len() < size {
-        return;
-    }
-    let got = numbers::read(bytes, 0);
-    if let Number::Value { value, next: _ } = got {
-        let done = numbers::write(&mut buffer[0..size], place, value);
-        say_written(done, &buffer[..], size);
-    }
 }
 
 fn read_road(bytes: &[u8]) {
@@ -140,8 +116,7 @@ fn road_of(ns: u32) -> [u32; 452] {
     row
 }
 
-// The period of a road of so many segments; the place stands for NS.
-fn read_period(ns: u32, bytes: &[u8]) {
+fn read_period(bytes: &[u8], ns: u32) {
     let sheet = sheets::read_period(bytes, &road_of(ns));
     let row = sheet.row;
     say_sheet(
@@ -150,66 +125,127 @@ fn read_period(ns: u32, bytes: &[u8]) {
     );
 }
 
-fn write_road(buffer: &mut [u8], place: usize, size: usize, bytes: &[u8]) {
-    if buffer.len() < size {
-        return;
-    }
+fn write_number(buffer: &mut [u8], at: usize, value: u32) {
+    let done = numbers::write(buffer, at, value);
+    say_written(done, buffer);
+}
+
+fn write_road(buffer: &mut [u8], at: usize, bytes: &[u8]) {
     let sheet = sheets::read_road(bytes);
     let row = sheet.row;
-    let done = sheets::write_road(&mut buffer[0..size], place, row);
-    say_written(done, &buffer[..], size);
+    let done = sheets::write_road(buffer, at, row);
+    say_written(done, buffer);
 }
 
-fn write_period(buffer: &mut [u8], place: usize, size: usize, bytes: &[u8]) {
-    if buffer.len() < size {
-        return;
-    }
-    let ns = byte(bytes, 0);
+fn write_period(buffer: &mut [u8], at: usize, bytes: &[u8]) {
+    let ns = if bytes.len() == 0 { 0 } else { bytes[0] };
     let sheet = sheets::read_period(bytes, &road_of(ns as u32));
     let row = sheet.row;
-    let done = sheets::write_period(&mut buffer[0..size], place, row);
-    say_written(done, &buffer[..], size);
+    let done = sheets::write_period(buffer, at, row);
+    say_written(done, buffer);
 }
 
-fn play(what: u8, place: usize, size: usize, bytes: &[u8]) {
+fn say_not_a_call() {
+    say(b"not a call");
+}
+
+// Writes a sheet that is read first.
+fn play_sheet(is_road: bool, bytes: &[u8], more: Numbers) {
     let mut buffer = [0xAAu8; 1024];
-    match what {
-        0 => read_number(place, bytes),
-        1 => write_number(&mut buffer, place, size, bytes),
-        2 => read_road(bytes),
-        3 => read_period((place % 65536) as u32, bytes),
-        4 => write_road(&mut buffer, place, size, bytes),
-        _ => write_period(&mut buffer, place, size, bytes),
+    let room = more.first as usize;
+    let at = more.second as usize;
+    if 1024 < room {
+        say(b"room above 1024");
+        return;
+    }
+    if is_road {
+        write_road(&mut buffer[0..room], at, bytes);
+    } else {
+        write_period(&mut buffer[0..room], at, bytes);
     }
 }
 
-// Plays the record at a place, and gives the place after it.
-fn play_at(input: &[u8], at: usize) -> usize
-    requires { ⌜ at < 65529 ⌝ }
-    ensures { λ r. ⌜ at < r ⌝ }
-{
-    let from = at + 7;
-    let end = from + pair(input, at + 5);
-    if end <= input.len() {
-        play(
-            byte(input, at),
-            pair(input, at + 1),
-            pair(input, at + 3),
-            &input[from..end],
-        );
+fn play_number(word: &[u8], more: Numbers) {
+    let mut buffer = [0xAAu8; 1024];
+    let room = more.first as usize;
+    let at = more.second as usize;
+    if 1024 < room {
+        say(b"room above 1024");
+        return;
     }
-    end
+    match text::number(word) {
+        Numeral::Value(value) => write_number(&mut buffer[0..room], at, value),
+        Numeral::Other => say_not_a_call(),
+    }
+}
+
+fn play_bytes(call: Call, word: &[u8], more: Numbers) {
+    let mut bytes = io::large_buffer();
+    let given = records::bytes_of(word, &mut bytes);
+    let n = given.count;
+    if !given.fine {
+        say_not_a_call();
+        return;
+    }
+    match call {
+        Call::ReadNumber => say_read(numbers::read(&bytes[0..n], more.first as usize)),
+        Call::ReadRoad => read_road(&bytes[0..n]),
+        Call::ReadPeriod => read_period(&bytes[0..n], more.first),
+        Call::WriteRoad => play_sheet(true, &bytes[0..n], more),
+        _ => play_sheet(false, &bytes[0..n], more),
+    }
+}
+
+fn play_call(call: Call, word: &[u8], more: Numbers) {
+    match call {
+        Call::WriteNumber => play_number(word, more),
+        Call::Other => say_not_a_call(),
+        _ => play_bytes(call, word, more),
+    }
+}
+
+// Plays a record, and prints its answer.
+fn play(record: &[u8]) {
+    let name = text::next_word(record, 0);
+    let from = name.start;
+    let to = name.end;
+    let given = text::next_word(record, to);
+    let start = given.start;
+    let end = given.end;
+    let more = records::up_to_two(&record[end..], 0, 0);
+    if !more.fine {
+        say_not_a_call();
+        return;
+    }
+    play_call(call_of(&record[from..to]), &record[start..end], more);
+}
+
+// Plays a record of a line, and tells whether there was one.
+fn play_line(line: &[u8], next: Record) -> bool {
+    let from = next.start;
+    let to = next.end;
+    if line.len() < to {
+        return false;
+    }
+    if to <= from {
+        return false;
+    }
+    records::say_record(&line[from..to]);
+    play(&line[from..to]);
+    say(b"\n");
+    true
 }
 
 fn main() {
-    let mut buffer = io::large_buffer();
-    let n = io::read_full(0, &mut buffer);
-    let input = &buffer[..n];
-    let mut at = 0;
-    while at < 65529 {
-        if input.len() <= at {
+    let mut chunk = io::buffer();
+    let mut line = input::line_room();
+    let mut next = records::next(records::start(), &mut chunk, &mut line);
+    let mut turns = u64::MAX;
+    while turns > 0 {
+        if !play_line(&line, next) {
             return;
         }
-        at = play_at(input, at);
+        next = records::next(next, &mut chunk, &mut line);
+        turns -= 1;
     }
 }

@@ -1,42 +1,30 @@
-// Steps the roads on standard input, each from a fresh state, and prints the state and the flows after each step.
-// A record: a count (2 bytes, low first), the number of steps, and so many bytes: a road sheet and a period sheet.
+// Steps the roads on standard input, each from a fresh state, and prints the state and the flows after each step. A record is a line:
+//     steps COUNT ROAD PERIOD
+// COUNT is at most 255; ROAD and PERIOD are the bytes of the sheets in hexadecimal.
 use arithmetic::less_wide;
 use letters::Level;
+use records::Record;
+use records::say;
+use records::say_number;
 use segment::Cell;
 use steps::Ends;
 use steps::State;
+use text::Numeral;
 ghost use Prim.Native.Nat.{_<_, _≤_};
 ghost use Rattle.parts.specs.Good.{GoodRoad, GoodPeriod};
 ghost use Rattle.conditions.specs.Conditions.{segments};
 ghost use Rattle.conditions.specs.Good.{GoodConditions};
 ghost use Rattle.conditions.specs.Row.{conditionsIn, HasShortcuts};
 
-fn say(label: &[u8], number: u64) {
-    io::write_all(1, label);
-    io::print_decimal(1, number);
-}
-
-fn say_level(level: Level) {
-    match level {
-        Level::A => io::write_all(1, b" A\n"),
-        Level::B => io::write_all(1, b" B\n"),
-        Level::C => io::write_all(1, b" C\n"),
-        Level::D => io::write_all(1, b" D\n"),
-        Level::E => io::write_all(1, b" E\n"),
-        Level::F => io::write_all(1, b" F\n"),
-    }
-    ;
-}
-
 fn say_cell(number: u64, cell: Cell, level: Level) {
-    say(b"  ", number);
-    say(b" n ", cell.n as u64);
-    say(b" q ", cell.q as u64);
-    say(b" f ", cell.main as u64);
-    say(b" r ", cell.ramp as u64);
-    say(b" off ", cell.off as u64);
-    say(b" y ", cell.out as u64);
-    say_level(level);
+    say_number(b"  ", number);
+    say_number(b" n ", cell.n as u64);
+    say_number(b" q ", cell.q as u64);
+    say_number(b" f ", cell.main as u64);
+    say_number(b" r ", cell.ramp as u64);
+    say_number(b" off ", cell.off as u64);
+    say_number(b" y ", cell.out as u64);
+    say(&[b' ', letters::letter_byte(level), b'\n']);
 }
 
 fn say_cells(road: &[u32; 452], state: State)
@@ -54,12 +42,12 @@ fn say_cells(road: &[u32; 452], state: State)
 }
 
 fn say_sums(t: u64, origin: u32, arrived: u64, left: u64, partsteps: u64) {
-    say(b"step ", t);
-    say(b" origin ", origin as u64);
-    say(b" arrived ", arrived);
-    say(b" left ", left);
-    say(b" partsteps ", partsteps);
-    io::write_all(1, b"\n");
+    say_number(b"step ", t);
+    say_number(b" origin ", origin as u64);
+    say_number(b" arrived ", arrived);
+    say_number(b" left ", left);
+    say_number(b" partsteps ", partsteps);
+    say(b"\n");
 }
 
 // Makes so many steps under the conditions in a row, and prints each.
@@ -97,55 +85,98 @@ fn run_under(road: &[u32; 452], period: &[u32; 452], count: u64)
 }
 
 // Reads the road and its period, and steps.
-fn play(bytes: &[u8], count: u64)
+fn play_sheets(road_bytes: &[u8], period_bytes: &[u8], count: u64)
     requires { ⌜ count < 256 ⌝ }
 {
-    let sheet = sheets::read_road(bytes);
+    let sheet = sheets::read_road(road_bytes);
     let road = sheet.row;
-    let used = sheet.used;
-    if used <= bytes.len() {
-        let next = sheets::read_period(&bytes[used..], &road);
-        let period = next.row;
-        if parts::is_road(&road) {
-            if parts::is_period(&road, &period) {
-                run_under(&road, &period, count);
-            }
+    let next = sheets::read_period(period_bytes, &road);
+    let period = next.row;
+    if parts::is_road(&road) {
+        if parts::is_period(&road, &period) {
+            say(b"ok\n");
+            run_under(&road, &period, count);
+            return;
         }
     }
+    say(b"not a road and its period\n");
 }
 
-fn wide(b: u8) -> usize
-    ensures { λ r. ⌜ r < 256 ⌝ }
+// Plays the sheets of two words.
+fn play_words(road: &[u8], period: &[u8], count: u64)
+    requires { ⌜ count < 256 ⌝ }
 {
-    b as usize
+    let mut road_bytes = io::large_buffer();
+    let mut period_bytes = io::large_buffer();
+    let first = records::bytes_of(road, &mut road_bytes);
+    let second = records::bytes_of(period, &mut period_bytes);
+    let n = first.count;
+    let m = second.count;
+    if first.fine & second.fine {
+        play_sheets(&road_bytes[0..n], &period_bytes[0..m], count);
+    } else {
+        say(b"not a record\n");
+    }
 }
 
-// Plays the record at a place, and gives the place after it.
-fn play_at(input: &[u8], at: usize) -> usize
-    requires { ⌜ at < 65529 ⌝ }
-    ensures { λ r. ⌜ at < r ⌝ }
-{
-    let from = at + 3;
-    if input.len() < from {
-        return from;
+// Plays a road and its period by so many steps.
+fn play_steps(count: u32, rest: &[u8]) {
+    let road = text::next_word(rest, 0);
+    let a = road.start;
+    let b = road.end;
+    let period = records::only_word(&rest[b..]);
+    let c = period.start;
+    let d = period.end;
+    let sheet = &rest[b..];
+    if count < 256 {
+        play_words(&rest[a..b], &sheet[c..d], count as u64);
+    } else {
+        say(b"not a record\n");
     }
-    let end = from + wide(input[at]) + 256 * wide(input[at + 1]);
-    let count = wide(input[at + 2]);
-    if end <= input.len() {
-        play(&input[from..end], count as u64);
+}
+
+// Plays a record, and prints its answer.
+fn play(record: &[u8]) {
+    let name = text::next_word(record, 0);
+    let a = name.start;
+    let b = name.end;
+    let number = text::next_word(record, b);
+    let c = number.start;
+    let d = number.end;
+    if text::same(&record[a..b], b"steps") {
+        if let Numeral::Value(count) = text::number(&record[c..d]) {
+            play_steps(count, &record[d..]);
+            return;
+        }
     }
-    end
+    say(b"not a record\n");
+}
+
+// Plays a record of a line, and tells whether there was one.
+fn play_line(line: &[u8], next: Record) -> bool {
+    let from = next.start;
+    let to = next.end;
+    if line.len() < to {
+        return false;
+    }
+    if to <= from {
+        return false;
+    }
+    records::say_record(&line[from..to]);
+    play(&line[from..to]);
+    true
 }
 
 fn main() {
-    let mut buffer = io::large_buffer();
-    let n = io::read_full(0, &mut buffer);
-    let input = &buffer[..n];
-    let mut at = 0;
-    while at < 65529 {
-        if input.len() <= at {
+    let mut chunk = io::buffer();
+    let mut line = input::line_room();
+    let mut next = records::next(records::start(), &mut chunk, &mut line);
+    let mut turns = u64::MAX;
+    while turns > 0 {
+        if !play_line(&line, next) {
             return;
         }
-        at = play_at(input, at);
+        next = records::next(next, &mut chunk, &mut line);
+        turns -= 1;
     }
 }

@@ -1,72 +1,53 @@
-// Runs every study of a stream and prints its name and its listing. The stream is names and studies by turns, each after its length
-// in two bytes, the low one first.
-ghost use Prim.Native.Nat.{_≤_, _<_};
-ghost use lib.ListN.{length};
+// Runs every study on standard input, one a line, its name and its bytes in hexadecimal, and prints its name and its listing.
+use records::Record;
+use records::say;
 
-// A part of the stream, from start to end.
-pub struct Part {
-    pub start: usize,
-    pub end: usize,
+// Prints the listing of a study.
+fn play_study(rest: &[u8]) {
+    let mut bytes = io::large_buffer();
+    let given = records::only_bytes(rest, &mut bytes);
+    let n = given.count;
+    if !given.fine {
+        say(b"not a study's bytes\n");
+        return;
+    }
+    listing::print_study(&bytes[0..n]);
 }
 
-fn wide(x: u8) -> usize
-    ensures { λ r. ⌜ r < 256 ⌝ }
-{
-    x as usize
-}
-
-// The part whose length stands at a place; an empty one at the end where the stream is too short.
-fn part_at(stream: &[u8], at: usize) -> Part
-    requires { ⌜ at ≤ length (now stream) ⌝ }
-    ensures { λ r. ⌜ (at ≤ r .start) × (r .start ≤ r .end) × (r .end ≤ length (now (stream .entry))) × (at < length (now (stream .entry)) → at < r .end) ⌝ }
-{
-    let all = stream.len();
-    if all - at < 2 {
-        return Part {
-            start: all,
-            end: all,
-        };
-    }
-    let size = wide(stream[at]) + 256 * wide(stream[at + 1]);
-    let start = at + 2;
-    if all - start < size {
-        return Part {
-            start: all,
-            end: all,
-        };
-    }
-    Part {
-        start,
-        end: start + size,
-    }
-}
-
-// Prints a name and the listing of the study after it, and tells where the next name is.
-fn check_one(stream: &[u8], at: usize) -> usize
-    requires { ⌜ at < length (now stream) ⌝ }
-    ensures { λ r. ⌜ (at < r) × (r ≤ length (now (stream .entry))) ⌝ }
-{
-    let name = part_at(stream, at);
+// Plays a record: a name and a study.
+fn play(record: &[u8]) {
+    let name = text::next_word(record, 0);
     let from = name.start;
     let to = name.end;
-    io::write_all(1, &stream[from..to]);
-    io::write_all(1, b"\n");
-    let study = part_at(stream, to);
-    let start = study.start;
-    let end = study.end;
-    listing::print(study::forecast(&stream[start..end]));
-    end
+    say(&record[from..to]);
+    say(b"\n");
+    play_study(&record[to..]);
 }
 
-fn check_all(stream: &[u8]) {
-    let mut at: usize = 0;
-    while at < stream.len() {
-        at = check_one(stream, at);
+// Plays a record of a line, and tells whether there was one.
+fn play_line(line: &[u8], next: Record) -> bool {
+    let from = next.start;
+    let to = next.end;
+    if line.len() < to {
+        return false;
     }
+    if to <= from {
+        return false;
+    }
+    play(&line[from..to]);
+    true
 }
 
 fn main() {
-    let mut buffer = io::large_buffer();
-    let length = io::read_full(0, &mut buffer);
-    check_all(&buffer[..length]);
+    let mut chunk = io::buffer();
+    let mut line = input::line_room();
+    let mut next = records::next(records::start(), &mut chunk, &mut line);
+    let mut turns = u64::MAX;
+    while turns > 0 {
+        if !play_line(&line, next) {
+            return;
+        }
+        next = records::next(next, &mut chunk, &mut line);
+        turns -= 1;
+    }
 }

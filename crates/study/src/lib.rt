@@ -1,13 +1,11 @@
 // A whole study: from the bytes of its file to everything the listing shows.
 use door::Facility;
-use letters::Level;
 ghost use mathlib.Core.Path.{_≡_};
 ghost use mathlib.Core.Bool.{true};
 ghost use Prim.Native.Nat.{_+_, _≤_, _<_};
 ghost use mathlib.Core.List.{_++_};
 ghost use lib.ListN.{length, take, drop, set};
 ghost use Rattle.conditions.specs.Conditions.{segments};
-ghost use Rattle.letters.specs.Level.{letterByte};
 ghost use Rattle.door.specs.Sound.{sound};
 ghost use Rattle.study.specs.Forecast.{linesBy, refusedListing, forecastOf};
 ghost use Rattle.study.specs.Export.{lineNumbers, listingNumbers, exportAnswer, exportInto};
@@ -31,19 +29,6 @@ pub struct Listing {
     pub partsteps: u64,
     pub origin: u32,
     pub lines: [Line; 64],
-}
-
-fn letter_byte(level: Level) -> u8
-    ensures { λ r. ⌜ r ≡ letterByte level ⌝ }
-{
-    match level {
-        Level::A => 65,
-        Level::B => 66,
-        Level::C => 67,
-        Level::D => 68,
-        Level::E => 69,
-        Level::F => 70,
-    }
 }
 
 fn refused_at(number: u8, place: usize) -> Listing
@@ -78,7 +63,7 @@ fn line_at(f: Facility, i: u32) -> Line
     Line {
         n: report.n,
         q: report.q,
-        letter: letter_byte(level),
+        letter: letters::letter_byte(level),
     }
 }
 

@@ -1,21 +1,19 @@
-// Decimal numbers in text: white space between them, and comments from a `#` to the end of its line.
+// Text for people, line by line: words with white space between them, and decimal numbers. A comment goes from a `#` to the end of its line.
 ghost use mathlib.Core.Path.{_≡_};
-ghost use Prim.Native.Nat.{_+_, _-_, _≤_, _<_};
-ghost use mathlib.Core.Bool.{false};
+ghost use Prim.Native.Nat.{_+_, _-_, _*_, _≤_, _<_, min};
 ghost use lib.ListN.{length, drop};
-ghost use Rattle.text.specs.Text.{isWhite, isDigit, isBlank, opens, skipFrom, digitsFrom, tokenAt, numbersIn, checkedAs};
+ghost use Rattle.text.specs.Text.{isWhite, isDigit, stops, firstFrom, wordAt, numberOf, sameWord};
 
-// What comes next in a text: a number with the place after it, the end, or a byte that is bad, by its place.
-pub enum Token {
-    Number(u32, usize),
-    End,
-    Bad(usize),
+// A word of a line, from its first byte to before its end; none is left where both are the same.
+pub struct Word {
+    pub start: usize,
+    pub end: usize,
 }
 
-// A text that is fine, with how many numbers it has, or the place of its first bad byte.
-pub enum Checked {
-    Fine(usize),
-    Wrong(usize),
+// A decimal number up to 2 ^ 32 - 1, or something else.
+pub enum Numeral {
+    Value(u32),
+    Other,
 }
 
 fn is_white(b: u8) -> bool
@@ -24,43 +22,51 @@ fn is_white(b: u8) -> bool
     (b == 32) | ((9 <= b) & (b <= 13))
 }
 
-fn is_digit(b: u8) -> bool
+pub fn is_digit(b: u8) -> bool
     ensures { λ r. ⌜ r ≡ isDigit b ⌝ }
 {
     (48 <= b) & (b <= 57)
 }
 
-fn is_blank(inside: bool, b: u8) -> bool
-    ensures { λ r. ⌜ r ≡ isBlank inside b ⌝ }
+// Whether a byte ends a word, or, before a word, the white space.
+fn is_stop(in_word: bool, b: u8) -> bool
+    ensures { λ r. ⌜ r ≡ stops in_word b ⌝ }
 {
-    inside | (is_white(b) | (b == 35))
-}
-
-// Whether a comment is open after the byte.
-fn is_open(inside: bool, b: u8) -> bool
-    ensures { λ r. ⌜ r ≡ opens inside b ⌝ }
-{
-    if inside {
-        return !(b == 10);
+    if in_word {
+        return is_white(b) | (b == 35);
     }
-    b == 35
+    !is_white(b)
 }
 
-// The place of the first byte that is not blank.
-fn skip(text: &[u8], at: usize) -> usize
-    requires { ⌜ at ≤ length (now text) ⌝ }
-    ensures { λ r. ⌜ (r ≡ skipFrom false at (drop at (now (text .entry)))) × (at ≤ r) × (r ≤ length (now (text .entry))) ⌝ }
+// The place of the first byte that ends a word, or the white space before it.
+fn first(line: &[u8], at: usize, in_word: bool) -> usize
+    requires { ⌜ at ≤ length (now line) ⌝ }
+    ensures { λ r. ⌜ (r ≡ firstFrom in_word at (drop at (now (line .entry)))) × (at ≤ r) × (r ≤ length (now (line .entry))) ⌝ }
 {
-    let mut inside = false;
     let mut i = at;
-    while i < text.len() {
-        if !is_blank(inside, text[i]) {
+    while i < line.len() {
+        if is_stop(in_word, line[i]) {
             return i;
         }
-        inside = is_open(inside, text[i]);
         i += 1;
     }
     i
+}
+
+fn least(a: usize, b: usize) -> usize
+    ensures { λ r. ⌜ r ≡ min a b ⌝ }
+{
+    if a < b { a } else { b }
+}
+
+// The next word of a line from a place on.
+pub fn next_word(line: &[u8], at: usize) -> Word
+    ensures { λ r. ⌜ (r ≡ wordAt (now (line .entry)) at) × (min at (length (now (line .entry))) ≤ r .start) × (r .start ≤ r .end)
+        × (r .end ≤ length (now (line .entry))) ⌝ }
+{
+    let start = first(line, least(at, line.len()), false);
+    let end = first(line, start, true);
+    Word { start, end }
 }
 
 fn digit(b: u8) -> u64
@@ -70,64 +76,43 @@ fn digit(b: u8) -> u64
     (b - 48) as u64
 }
 
-// The number whose digits start at a place.
-fn number(text: &[u8], at: usize) -> Token
-    requires { ⌜ at ≤ length (now text) ⌝ }
-    ensures { λ r. ⌜ r ≡ digitsFrom 0 at (drop at (now (text .entry))) ⌝ }
+// The number that a word says.
+pub fn number(word: &[u8]) -> Numeral
+    ensures { λ r. ⌜ r ≡ numberOf (now (word .entry)) ⌝ }
 {
+    if word.len() == 0 {
+        return Numeral::Other;
+    }
     let mut v: u64 = 0;
-    let mut i = at;
-    while i < text.len() {
-        let b = text[i];
+    let mut i: usize = 0;
+    while i < word.len() {
+        let b = word[i];
         if !is_digit(b) {
-            return Token::Number(v as u32, i);
+            return Numeral::Other;
         }
         let next = 10 * v + digit(b);
         if 4294967295 < next {
-            return Token::Bad(i);
+            return Numeral::Other;
         }
         v = next;
         i += 1;
     }
-    Token::Number(v as u32, i)
+    Numeral::Value(v as u32)
 }
 
-// The next number of a text from a place on.
-pub fn next(text: &[u8], at: usize) -> Token
-    ensures { λ r. ⌜ r ≡ tokenAt (now (text .entry)) at ⌝ }
+// Whether two words are the same.
+pub fn same(a: &[u8], b: &[u8]) -> bool
+    ensures { λ r. ⌜ r ≡ sameWord (now (a .entry)) (now (b .entry)) ⌝ }
 {
-    if text.len() < at {
-        return Token::End;
+    if a.len() != b.len() {
+        return false;
     }
-    let start = skip(text, at);
-    if text.len() <= start {
-        return Token::End;
-    }
-    if !is_digit(text[start]) {
-        return Token::Bad(start);
-    }
-    number(text, start)
-}
-
-// How many numbers a text has, or the place of its first bad byte.
-pub fn check(text: &[u8]) -> Checked
-    ensures { λ r. ⌜ r ≡ checkedAs 0 (numbersIn (now (text .entry))) ⌝ }
-{
-    let mut count: usize = 0;
-    let mut at: usize = 0;
-    while count <= text.len() {
-        match next(text, at) {
-            Token::Number(_, place) => {
-                at = place;
-            }
-            Token::End => {
-                return Checked::Fine(count);
-            }
-            Token::Bad(place) => {
-                return Checked::Wrong(place);
-            }
+    let mut i: usize = 0;
+    while i < a.len() {
+        if a[i] != b[i] {
+            return false;
         }
-        count += 1;
+        i += 1;
     }
-    Checked::Fine(count)
+    true
 }

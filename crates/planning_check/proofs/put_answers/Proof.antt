@@ -1,6 +1,6 @@
--- Safe and ending: at most 64 lines.
-use mathlib.Core.Path.{_≡_}
-use Prim.Native.Nat.{_≤_, _-_}
+-- At most 64 lines.
+use Prim.Native.Nat.{_-_, _≤_}
+use mathlib.Core.Path.{_≡_, refl}
 use lib.ListN.{length}
 use borrow.Author.Needs.{needs}
 use Rattle.planning_check.proofs.put_answers.Statement.{statement}
@@ -18,17 +18,14 @@ loop-holds c = search needs
 returns : tie.Need-returns Inv-loop μ-loop
 returns c = search needs
 
-slice-aggregate-write-all : tie.Need-slice-aggregate-write-all Inv-loop μ-loop
-slice-aggregate-write-all c = search needs
+slice-aggregate-say-number : tie.Need-slice-aggregate-say-number Inv-loop μ-loop
+slice-aggregate-say-number c = search needs
 
-write-all-requires : tie.Need-write-all-requires Inv-loop μ-loop
-write-all-requires c κs = search needs
+add-say-number : tie.Need-add-say-number Inv-loop μ-loop
+add-say-number c = search needs
 
-add-print-decimal : tie.Need-add-print-decimal Inv-loop μ-loop
-add-print-decimal c = search needs
-
-print-decimal-requires : tie.Need-print-decimal-requires Inv-loop μ-loop
-print-decimal-requires c κs = search needs
+say-number-requires : tie.Need-say-number-requires Inv-loop μ-loop
+say-number-requires c κs = search needs
 
 mul-done : tie.Need-mul-done Inv-loop μ-loop
 mul-done c = search needs
@@ -39,11 +36,11 @@ array-copy-out-done c = search needs
 put-answer-requires : tie.Need-put-answer-requires Inv-loop μ-loop
 put-answer-requires c κs = search needs
 
-slice-aggregate-write-all-2 : tie.Need-slice-aggregate-write-all-2 Inv-loop μ-loop
-slice-aggregate-write-all-2 c = search needs
+slice-aggregate-say : tie.Need-slice-aggregate-say Inv-loop μ-loop
+slice-aggregate-say c = search needs
 
-write-all-requires-2 : tie.Need-write-all-requires-2 Inv-loop μ-loop
-write-all-requires-2 c κs = search needs
+say-requires : tie.Need-say-requires Inv-loop μ-loop
+say-requires c κs = search needs
 
 add-i : tie.Need-add-i Inv-loop μ-loop
 add-i c = search needs
@@ -65,15 +62,14 @@ put-answers-spec =
     μ-loop
     loop-holds
     returns
-    slice-aggregate-write-all
-    write-all-requires
-    add-print-decimal
-    print-decimal-requires
+    slice-aggregate-say-number
+    add-say-number
+    say-number-requires
     mul-done
     array-copy-out-done
     put-answer-requires
-    slice-aggregate-write-all-2
-    write-all-requires-2
+    slice-aggregate-say
+    say-requires
     add-i
     loop-less
     loop-again

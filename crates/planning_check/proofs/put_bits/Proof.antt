@@ -15,20 +15,20 @@ no-nan nan e = absurd (let z : _≡_ {A = ℕ} 0 1 = cc in omega arith)
 no-nan (inf s) e = tt
 no-nan (fin s m k) e = tt
 
-slice-aggregate-write-all : tie.Need-slice-aggregate-write-all
-slice-aggregate-write-all c = search needs
+slice-aggregate-say : tie.Need-slice-aggregate-say
+slice-aggregate-say c = search needs
 
-write-all-requires : tie.Need-write-all-requires
-write-all-requires c κs = search needs
+say-requires : tie.Need-say-requires
+say-requires c κs = search needs
 
 returns : tie.Need-returns
 returns c = search needs
 
-slice-aggregate-write-all-2 : tie.Need-slice-aggregate-write-all-2
-slice-aggregate-write-all-2 c = search needs
+slice-aggregate-say-2 : tie.Need-slice-aggregate-say-2
+slice-aggregate-say-2 c = search needs
 
-write-all-requires-2 : tie.Need-write-all-requires-2
-write-all-requires-2 c κs = search needs
+say-requires-2 : tie.Need-say-requires-2
+say-requires-2 c κs = search needs
 
 float-to-bits-print-hex : tie.Need-float-to-bits-print-hex
 float-to-bits-print-hex c = no-nan _ (c .before .before .if1 .left)
@@ -43,11 +43,11 @@ pub put-bits-spec : {M : Type 1} → statement M
 put-bits-spec =
     tie.close
     (tie.spec
-    slice-aggregate-write-all
-    write-all-requires
+    slice-aggregate-say
+    say-requires
     returns
-    slice-aggregate-write-all-2
-    write-all-requires-2
+    slice-aggregate-say-2
+    say-requires-2
     float-to-bits-print-hex
     print-hex-requires
     returns-2)

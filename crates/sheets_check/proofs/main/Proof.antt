@@ -1,38 +1,57 @@
--- The records in turn: each starts after the one before.
-use Prim.Native.Nat.{_≤_, _-_}
+-- Record by record.
+use mathlib.Core.Path.{_≡_, refl}
+use lib.ListN.{length}
 use borrow.Author.Needs.{needs}
 use Rattle.sheets_check.proofs.main.Statement.{statement}
 use Rattle.sheets_check.proofs.main.Tie as tie
 
 abbrev Inv-loop : tie.InvT-loop
-Inv-loop n input at₀ at = 0 ≤ at
+Inv-loop chunk₀ line₀ next₀ turns₀ chunk line next turns = (4096 ≡ length chunk) × (98304 ≡ length line)
 
 abbrev μ-loop : tie.MeasureT-loop
-μ-loop n input at₀ at = 65529 - at
+μ-loop chunk₀ line₀ next₀ turns₀ chunk line next turns = turns
 
-large-buffer-requires : tie.Need-large-buffer-requires Inv-loop μ-loop
-large-buffer-requires c κs = search needs
+buffer-requires : tie.Need-buffer-requires Inv-loop μ-loop
+buffer-requires c κs = search needs
 
-slice-aggregate-read-full : tie.Need-slice-aggregate-read-full Inv-loop μ-loop
-slice-aggregate-read-full c = search needs
+line-room-requires : tie.Need-line-room-requires Inv-loop μ-loop
+line-room-requires c κs = search needs
 
-read-full-requires : tie.Need-read-full-requires Inv-loop μ-loop
-read-full-requires c κs = search needs
+start-requires : tie.Need-start-requires Inv-loop μ-loop
+start-requires c κs = search needs
 
-array-share-prefix-buffer : tie.Need-array-share-prefix-buffer Inv-loop μ-loop
-array-share-prefix-buffer c = search needs
+slice-aggregate-next : tie.Need-slice-aggregate-next Inv-loop μ-loop
+slice-aggregate-next c = search needs
 
-slice-aggregate-input : tie.Need-slice-aggregate-input Inv-loop μ-loop
-slice-aggregate-input c = search needs
+slice-aggregate-next-2 : tie.Need-slice-aggregate-next-2 Inv-loop μ-loop
+slice-aggregate-next-2 c = search needs
+
+next-requires : tie.Need-next-requires Inv-loop μ-loop
+next-requires c κs = search needs
 
 loop-holds : tie.Need-loop-holds Inv-loop μ-loop
 loop-holds c = search needs
 
+slice-aggregate-play-line : tie.Need-slice-aggregate-play-line Inv-loop μ-loop
+slice-aggregate-play-line c = search needs
+
+play-line-requires : tie.Need-play-line-requires Inv-loop μ-loop
+play-line-requires c κs = search needs
+
 returns : tie.Need-returns Inv-loop μ-loop
 returns c = search needs
 
-play-at-requires : tie.Need-play-at-requires Inv-loop μ-loop
-play-at-requires c κs = search needs
+slice-aggregate-next-3 : tie.Need-slice-aggregate-next-3 Inv-loop μ-loop
+slice-aggregate-next-3 c = search needs
+
+slice-aggregate-next-4 : tie.Need-slice-aggregate-next-4 Inv-loop μ-loop
+slice-aggregate-next-4 c = search needs
+
+next-requires-2 : tie.Need-next-requires-2 Inv-loop μ-loop
+next-requires-2 c κs = search needs
+
+sub-turns : tie.Need-sub-turns Inv-loop μ-loop
+sub-turns c = search needs
 
 loop-less : tie.Need-loop-less Inv-loop μ-loop
 loop-less c = search needs
@@ -49,14 +68,20 @@ main-spec =
     (tie.spec
     Inv-loop
     μ-loop
-    large-buffer-requires
-    slice-aggregate-read-full
-    read-full-requires
-    array-share-prefix-buffer
-    slice-aggregate-input
+    buffer-requires
+    line-room-requires
+    start-requires
+    slice-aggregate-next
+    slice-aggregate-next-2
+    next-requires
     loop-holds
+    slice-aggregate-play-line
+    play-line-requires
     returns
-    play-at-requires
+    slice-aggregate-next-3
+    slice-aggregate-next-4
+    next-requires-2
+    sub-turns
     loop-less
     loop-again
     returns-2)

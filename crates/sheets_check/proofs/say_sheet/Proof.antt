@@ -1,32 +1,23 @@
--- Every number of the row in turn.
-use Prim.Native.Nat.{_≤_, _-_}
+-- Number by number.
+use Prim.Native.Nat.{_-_, _≤_}
 use borrow.Author.Needs.{needs}
 use Rattle.sheets_check.proofs.say_sheet.Statement.{statement}
 use Rattle.sheets_check.proofs.say_sheet.Tie as tie
 
 abbrev Inv-loop : tie.InvT-loop
-Inv-loop count row k₀ t7 k = k ≤ 452
+Inv-loop count row k₀ t7 t8 k = k ≤ 452
 
 abbrev μ-loop : tie.MeasureT-loop
-μ-loop count row k₀ t7 k = 452 - k
+μ-loop count row k₀ t7 t8 k = 452 - k
 
-slice-aggregate-write-all : tie.Need-slice-aggregate-write-all Inv-loop μ-loop
-slice-aggregate-write-all c = search needs
+slice-aggregate-say-number : tie.Need-slice-aggregate-say-number Inv-loop μ-loop
+slice-aggregate-say-number c = search needs
 
-write-all-requires : tie.Need-write-all-requires Inv-loop μ-loop
-write-all-requires c κs = search needs
-
-print-decimal-requires : tie.Need-print-decimal-requires Inv-loop μ-loop
-print-decimal-requires c κs = search needs
+say-number-requires : tie.Need-say-number-requires Inv-loop μ-loop
+say-number-requires c κs = search needs
 
 say-refused-requires : tie.Need-say-refused-requires Inv-loop μ-loop
 say-refused-requires c κs = search needs
-
-space-requires : tie.Need-space-requires Inv-loop μ-loop
-space-requires c κs = search needs
-
-print-decimal-requires-2 : tie.Need-print-decimal-requires-2 Inv-loop μ-loop
-print-decimal-requires-2 c κs = search needs
 
 loop-holds : tie.Need-loop-holds Inv-loop μ-loop
 loop-holds c = search needs
@@ -37,20 +28,20 @@ mul-value c = search needs
 array-read-value : tie.Need-array-read-value Inv-loop μ-loop
 array-read-value c = search needs
 
-space-requires-2 : tie.Need-space-requires-2 Inv-loop μ-loop
-space-requires-2 c κs = search needs
+slice-aggregate-say-number-2 : tie.Need-slice-aggregate-say-number-2 Inv-loop μ-loop
+slice-aggregate-say-number-2 c = search needs
 
-cast-print-decimal : tie.Need-cast-print-decimal Inv-loop μ-loop
-cast-print-decimal c = search needs
+cast-say-number : tie.Need-cast-say-number Inv-loop μ-loop
+cast-say-number c = search needs
 
-print-decimal-requires-3 : tie.Need-print-decimal-requires-3 Inv-loop μ-loop
-print-decimal-requires-3 c κs = search needs
+say-number-requires-2 : tie.Need-say-number-requires-2 Inv-loop μ-loop
+say-number-requires-2 c κs = search needs
 
-slice-aggregate-write-all-2 : tie.Need-slice-aggregate-write-all-2 Inv-loop μ-loop
-slice-aggregate-write-all-2 c = search needs
+slice-aggregate-say : tie.Need-slice-aggregate-say Inv-loop μ-loop
+slice-aggregate-say c = search needs
 
-write-all-requires-2 : tie.Need-write-all-requires-2 Inv-loop μ-loop
-write-all-requires-2 c κs = search needs
+say-requires : tie.Need-say-requires Inv-loop μ-loop
+say-requires c κs = search needs
 
 add-k : tie.Need-add-k Inv-loop μ-loop
 add-k c = search needs
@@ -61,9 +52,6 @@ loop-less c = search needs
 loop-again : tie.Need-loop-again Inv-loop μ-loop
 loop-again c = search needs
 
-line-requires : tie.Need-line-requires Inv-loop μ-loop
-line-requires c κs = search needs
-
 returns : tie.Need-returns Inv-loop μ-loop
 returns c = search needs
 
@@ -73,22 +61,18 @@ say-sheet-spec =
     (tie.spec
     Inv-loop
     μ-loop
-    slice-aggregate-write-all
-    write-all-requires
-    print-decimal-requires
+    slice-aggregate-say-number
+    say-number-requires
     say-refused-requires
-    space-requires
-    print-decimal-requires-2
     loop-holds
     mul-value
     array-read-value
-    space-requires-2
-    cast-print-decimal
-    print-decimal-requires-3
-    slice-aggregate-write-all-2
-    write-all-requires-2
+    slice-aggregate-say-number-2
+    cast-say-number
+    say-number-requires-2
+    slice-aggregate-say
+    say-requires
     add-k
     loop-less
     loop-again
-    line-requires
     returns)
