@@ -6,6 +6,12 @@ use sheets::Layout;
 ghost use Prim.Native.Nat.{_≤_};
 ghost use lib.ListN.{length};
 
+// A refusal's number, 0 for none, and its place in the bytes.
+struct Refusal {
+    number: u8,
+    place: usize,
+}
+
 // The next field: its first byte, its sheet (0 is the road, i the period i) and its place there; the road's NS; whether all before it
 // was written.
 struct Next {
@@ -100,6 +106,19 @@ fn layout_of(sheet: u32, segments: u32) -> Layout {
 // The number after x, up to a largest one.
 fn after(x: usize, most: usize) -> usize {
     if x < most { x + 1 } else { most }
+}
+
+// A sum that stops at the largest number.
+fn sum(a: usize, b: usize) -> usize {
+    if a <= usize::MAX - b {
+        a + b
+    } else {
+        usize::MAX
+    }
+}
+
+fn refused_at(number: u8, place: usize) -> Refusal {
+    Refusal { number, place }
 }
 
 fn sheet_after(sheet: u32) -> u32 {
@@ -256,6 +275,34 @@ fn say_refused(output: i32, bytes: &[u8], f: Next, number: u8) -> bool {
         )
 }
 
+// The refusal of a study's periods, from a place of its bytes on: field by field, and 13 where more than 96 stand there.
+fn refusal_from(bytes: &[u8], start: usize, road: &[u32; 452]) -> Refusal {
+    let mut at = start;
+    let mut i: u32 = 0;
+    while i < 96 {
+        if bytes.len() <= at {
+            return refused_at(0, at);
+        }
+        let sheet = sheets::read_period(&bytes[at..], road);
+        if sheet.refusal != 0 {
+            return refused_at(sheet.refusal, sum(at, sheet.offset));
+        }
+        at = sum(at, sheet.used);
+        i += 1;
+    }
+    refused_at(if bytes.len() <= at { 0 } else { 13 }, at)
+}
+
+// The refusal of a study, as its forecast has it.
+fn refusal_of(bytes: &[u8]) -> Refusal {
+    let sheet = sheets::read_road(bytes);
+    if sheet.refusal != 0 {
+        return refused_at(sheet.refusal, sheet.offset);
+    }
+    let road = sheet.row;
+    refusal_from(bytes, sheet.used, &road)
+}
+
 fn complain(errors: i32, what: &[u8]) {
     io::write_all(errors, b"study_to_text: ");
     io::write_all(errors, what);
@@ -281,12 +328,12 @@ fn say_study(output: i32, bytes: &[u8], refusal: u8, place: usize) -> bool {
 }
 
 fn say_or_complain(output: i32, errors: i32, bytes: &[u8]) {
-    let seen = study::forecast(bytes);
-    if !say_study(output, bytes, seen.refusal, seen.place) {
+    let seen = refusal_of(bytes);
+    if !say_study(output, bytes, seen.number, seen.place) {
         complain(errors, b"cannot write the text");
     }
-    if seen.refusal != 0 {
-        complain_of_refusal(errors, seen.refusal, seen.place);
+    if seen.number != 0 {
+        complain_of_refusal(errors, seen.number, seen.place);
     }
 }
 
