@@ -28,7 +28,7 @@ spelled [] = Bytes []
 spelled (h ∷ []) = NotHex
 spelled (h ∷ l ∷ rest) = if ltb (hexValue h) 16 && ltb (hexValue l) 16 then withByte (16 * hexValue h + hexValue l) (spelled rest) else NotHex
 
--- how many bytes, where they have room
+-- how many bytes; a word whose digits come to more than the room is not looked into
 abbrev pub counted : Spelling → Spelled
 counted (Bytes bs) = Count (length bs)
 counted NotHex = Other
@@ -36,6 +36,6 @@ counted NotHex = Other
 unfoldable pub readBytes : (room : ℕ) → List ℕ → Spelled
 readBytes room word = if ltb room (length word / 2) then TooLong else counted (spelled word)
 
--- the buffer starts with the bytes that were counted
+-- the buffer starts with the bytes that were counted; where none are, nothing is said of it
 abbrev pub HasBytes : Spelled → List ℕ → List ℕ → Type 0
 HasBytes r word out = (bs : List ℕ) → spelled word ≡ Bytes bs → r ≡ Count (length bs) → take (length bs) out ≡ bs

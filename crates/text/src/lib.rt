@@ -22,13 +22,14 @@ fn is_white(b: u8) -> bool
     (b == 32) | ((9 <= b) & (b <= 13))
 }
 
+// Whether a byte is `0` to `9`.
 pub fn is_digit(b: u8) -> bool
     ensures { λ r. ⌜ r ≡ isDigit b ⌝ }
 {
     (48 <= b) & (b <= 57)
 }
 
-// Whether a byte ends a word, or, before a word, the white space.
+// In a word, whether a byte ends it; before one, whether it ends the white space.
 fn is_stop(in_word: bool, b: u8) -> bool
     ensures { λ r. ⌜ r ≡ stops in_word b ⌝ }
 {
@@ -38,7 +39,7 @@ fn is_stop(in_word: bool, b: u8) -> bool
     !is_white(b)
 }
 
-// The place of the first byte that ends a word, or the white space before it.
+// The place of the first byte from a place on that ends a word, or the white space before one.
 fn first(line: &[u8], at: usize, in_word: bool) -> usize
     requires { ⌜ at ≤ length (now line) ⌝ }
     ensures { λ r. ⌜ (r ≡ firstFrom in_word at (drop at (now (line .entry)))) × (at ≤ r) × (r ≤ length (now (line .entry))) ⌝ }

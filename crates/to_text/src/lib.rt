@@ -293,7 +293,7 @@ fn refusal_from(bytes: &[u8], start: usize, road: &[u32; 452]) -> Refusal {
     refused_at(if bytes.len() <= at { 0 } else { 13 }, at)
 }
 
-// The refusal of a study, as its forecast has it.
+// The refusal of a study: that of its road, or of its periods.
 fn refusal_of(bytes: &[u8]) -> Refusal {
     let sheet = sheets::read_road(bytes);
     if sheet.refusal != 0 {
