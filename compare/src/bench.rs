@@ -22,6 +22,9 @@ const LOAD: [u64; 18] = [30, 35, 45, 70, 95, 110, 100, 75, 60, 55, 60, 80, 105, 
 /// The place of its largest.
 const PEAK: usize = 13;
 
+/// Lanes are closed where the load is below this.
+const LIGHT: u64 = 50;
+
 #[derive(Clone, Copy)]
 enum Ramps {
     Everywhere,
@@ -150,18 +153,19 @@ fn study(ns: u64, periods: u64, ramps: Ramps) -> Vec<u8> {
     sheets(ns, periods, ramps).concat()
 }
 
-/// Its sheets: two peaks above capacity, a bottleneck two thirds along, recovery after each peak.
+/// Its sheets: two peaks above capacity, a bottleneck two thirds along, recovery after each peak; in the light hours one lane of every
+/// eighth segment is closed.
 fn sheets(ns: u64, periods: u64, ramps: Ramps) -> Vec<Vec<u8>> {
     let mut random = Random::new(ns);
     let has_ramp = |i: u64| match ramps {
         Ramps::Everywhere => true,
         Ramps::Rare => i % 16 == 5,
     };
+    let lanes = |i: u64| if i == ns * 2 / 3 { 2 } else { 3 };
     let mut road = vec![ns, 190, 45, 7];
     for i in 0..ns {
-        let lanes = if i == ns * 2 / 3 { 2 } else { 3 };
         let length = random.within(600, 2_600);
-        road.extend([length, lanes, random.within(55, 70), 2_200 * lanes]);
+        road.extend([length, lanes(i), random.within(55, 70), 2_200 * lanes(i)]);
         road.extend(if has_ramp(i) { [1_800, random.within(15, 60), 1_500] } else { [0, 0, 0] });
     }
     let mut sheets = vec![road];
@@ -171,6 +175,7 @@ fn sheets(ns: u64, periods: u64, ramps: Ramps) -> Vec<Vec<u8>> {
         for i in 0..ns {
             let demand = random.within(100, 220) * load / 100;
             sheet.extend(if has_ramp(i) { [demand, 900] } else { [0, 0] });
+            sheet.push(if load < LIGHT && i % 8 == 3 { lanes(i) - 1 } else { lanes(i) });
         }
         sheets.push(sheet);
     }

@@ -1,10 +1,11 @@
 //! Checks against files: studies with their listings, traces of steps, and lists of calls with their answers.
 //!
-//! NAME.study and NAME.listing are a study's bytes and what `forecast` prints; NAME.trace has the state and flows after
-//! each of its first steps. A .txt file is a list of calls on one road, a line each, `call arguments -> answer`.
+//! NAME.study and NAME.listing are a study's bytes and what `forecast` prints. NAME.trace has steps of that study: a line `period`
+//! with a sheet's numbers, then the state and flows after each of the first steps under it; the next sheet goes on from there.
+//! A .txt file is a list of calls on one road, a line each, `call arguments -> answer`.
 
-use crate::model::facility::{Facility, Report};
-use crate::model::sheets::Refusal;
+use crate::model::facility::{Facility, Report, Totals};
+use crate::model::sheets::{period_numbers, read_period, Refusal};
 use crate::{compare, model};
 use std::collections::BTreeMap;
 use std::fmt::Write;
@@ -72,24 +73,34 @@ fn same_lines(expected: &str, ours: &str) -> Result<(), String> {
     Ok(())
 }
 
-/// The model's trace of a study, as many steps as the `given` trace has.
+/// The model's trace of a study: its sheets in order, as many steps under each as the `given` trace has.
 fn trace(study: &[u8], given: &str) -> String {
     let mut text = String::new();
     let (mut facility, mut start) = Facility::lay(study).expect("a trace is of an accepted study");
-    let steps = given.lines().filter(|line| line.starts_with("step")).count();
-    for made in 0..steps {
-        if made % 60 == 0 {
-            start += facility.take(&study[start..]).expect("a trace is of an accepted study");
+    for line in given.lines() {
+        if line.starts_with("period") {
+            let (period, used) =
+                read_period(&study[start..], facility.road()).expect("a trace is of an accepted study");
+            let numbers: Vec<String> = period_numbers(&period).iter().map(u64::to_string).collect();
+            let _ = writeln!(text, "period {}", numbers.join(" "));
+            facility.put_in_force(period);
+            start += used;
+        } else if line.starts_with("step") {
+            facility.run(1).expect("a step remains");
+            text += &stepped(&facility);
         }
-        facility.run(1).expect("a step remains");
-        let totals = facility.totals();
-        let (step, origin) = (made + 1, facility.origin());
-        let (arrived, left, part_steps) = (totals.arrived, totals.left, totals.part_steps);
-        let _ = writeln!(text, "step {step} origin {origin} arrived {arrived} left {left} partsteps {part_steps}");
-        for i in 1..=facility.segments() {
-            let report = facility.report(i).expect("the segment is there");
-            let _ = writeln!(text, "  {i} {}", reported(&report));
-        }
+    }
+    text
+}
+
+/// The lines of a trace for a step that was made.
+fn stepped(facility: &Facility) -> String {
+    let Totals { arrived, left, part_steps, .. } = facility.totals();
+    let origin = facility.origin();
+    let mut text = format!("step origin {origin} arrived {arrived} left {left} partsteps {part_steps}\n");
+    for i in 1..=facility.segments() {
+        let report = facility.report(i).expect("the segment is there");
+        let _ = writeln!(text, "  {i} {}", reported(&report));
     }
     text
 }

@@ -1,7 +1,7 @@
 //! The engine's job in idiomatic Rust: what the engine is timed against. Each rule is a method by its closed form, a step is
 //! one pass over the segments, every cell keeps the last step's flows for reports; nothing is tuned beyond that.
 
-use crate::model::sheets::{read_period, read_road, Period, Ramp, Refusal, Road, Segment};
+use crate::model::sheets::{read_period, read_road, Entry, Period, Refusal, Road, Segment};
 use crate::outcome::{Forecast, Outcome, Standing};
 
 /// A whole study, from its bytes to the listing's numbers.
@@ -20,8 +20,8 @@ fn run(study: &[u8]) -> Result<Facility, Refusal> {
         if periods == 96 {
             return Err(Refusal::plain(13).in_file(start));
         }
-        let ns = facility.road.segments.len() as u64;
-        let (period, used) = read_period(&study[start..], ns).map_err(|refusal| refusal.in_file(start))?;
+        let (period, used) = read_period(&study[start..], &facility.road).map_err(|refusal| refusal.in_file(start))?;
+        facility.open_road = facility.road.opened_by(&period);
         for _ in 0..60 {
             facility.step(&period);
         }
@@ -51,6 +51,8 @@ struct Inflow {
 
 struct Facility {
     road: Road,
+    /// The road by the open lanes of the period in force.
+    open_road: Road,
     cells: Vec<Cell>,
     origin: u64,
     exit: u64,
@@ -66,6 +68,10 @@ impl Segment {
 
     fn wish_to_leave(&self, n: u64) -> u64 {
         n.min(self.capacity).min((n * 22 * self.speed).div_ceil(self.length))
+    }
+
+    fn with_lanes(&self, open: u64) -> Segment {
+        Segment { lanes: open, capacity: self.capacity * open / self.lanes, ..*self }
     }
 
     fn could_leave(&self, n: u64) -> u64 {
@@ -85,6 +91,11 @@ impl Segment {
 }
 
 impl Road {
+    fn opened_by(&self, period: &Period) -> Road {
+        let opened = |(segment, entry): (&Segment, &Entry)| segment.with_lanes(entry.open_lanes);
+        Road { segments: self.segments.iter().zip(&period.entries).map(opened).collect(), ..*self }
+    }
+
     fn jam(&self, segment: &Segment) -> u64 {
         self.jam_density * segment.lanes * segment.length / 22
     }
@@ -95,14 +106,14 @@ impl Road {
 
     fn supply(&self, segment: &Segment, n: u64, queue_before: bool) -> u64 {
         let entrance = if queue_before { segment.capacity * (100 - self.drop) / 100 } else { segment.capacity };
-        let room = self.jam(segment) - n;
+        let room = self.jam(segment).saturating_sub(n);
         let backward = segment.capacity * room / (self.jam(segment) - self.at_capacity(segment));
         entrance.min(room).min(backward)
     }
 
-    fn inflow(&self, segment: &Segment, ramp: &Ramp, cell: &Cell, wish: u64, queue_before: bool) -> Inflow {
+    fn inflow(&self, segment: &Segment, entry: &Entry, cell: &Cell, wish: u64, queue_before: bool) -> Inflow {
         let supply = self.supply(segment, cell.n, queue_before);
-        let ramp_wish = (cell.q + ramp.demand).min(segment.ramp_capacity).min(ramp.meter);
+        let ramp_wish = (cell.q + entry.ramp_demand).min(segment.ramp_capacity).min(entry.meter);
         let ramp = ramp_wish.min(supply.saturating_sub(wish).max(supply / (2 * segment.lanes)));
         Inflow { main: wish.min(supply - ramp), ramp }
     }
@@ -111,14 +122,14 @@ impl Road {
 impl Facility {
     fn fresh(road: Road) -> Facility {
         let cells = vec![Cell::default(); road.segments.len()];
-        Facility { road, cells, origin: 0, exit: 0, arrived: 0, left: 0, part_steps: 0 }
+        Facility { open_road: road.clone(), road, cells, origin: 0, exit: 0, arrived: 0, left: 0, part_steps: 0 }
     }
 
     fn step(&mut self, period: &Period) {
-        let Facility { road, cells, .. } = self;
+        let Facility { open_road: road, cells, .. } = self;
         let segments = &road.segments;
         let wish = self.origin + period.demand;
-        let mut inflow = road.inflow(&segments[0], &period.ramps[0], &cells[0], wish, self.origin > 0);
+        let mut inflow = road.inflow(&segments[0], &period.entries[0], &cells[0], wish, self.origin > 0);
         self.origin = wish - inflow.main;
         let mut left = 0;
         for i in 0..segments.len() {
@@ -127,7 +138,7 @@ impl Facility {
             let wish = most - segment.off(most);
             let ahead = match segments.get(i + 1) {
                 Some(next) => {
-                    road.inflow(next, &period.ramps[i + 1], &cells[i + 1], wish, cell.n > road.at_capacity(segment))
+                    road.inflow(next, &period.entries[i + 1], &cells[i + 1], wish, cell.n > road.at_capacity(segment))
                 }
                 None => Inflow { main: wish.min(period.exit_capacity), ramp: 0 },
             };
@@ -135,7 +146,7 @@ impl Facility {
             let off = segment.off(out);
             cells[i] = Cell {
                 n: cell.n + inflow.main + inflow.ramp - out,
-                q: cell.q + period.ramps[i].demand - inflow.ramp,
+                q: cell.q + period.entries[i].ramp_demand - inflow.ramp,
                 main: inflow.main,
                 ramp: inflow.ramp,
                 off,
@@ -145,7 +156,7 @@ impl Facility {
             inflow = ahead;
         }
         self.exit = inflow.main;
-        self.arrived += period.demand + period.ramps.iter().map(|ramp| ramp.demand).sum::<u64>();
+        self.arrived += period.demand + period.entries.iter().map(|entry| entry.ramp_demand).sum::<u64>();
         self.left += left + self.exit;
         self.part_steps += self.arrived - self.left;
     }
@@ -162,7 +173,7 @@ impl Facility {
             stored: self.cells.iter().map(|cell| cell.n + cell.q).sum::<u64>() + self.origin,
             part_steps: self.part_steps,
             origin: self.origin,
-            segments: self.road.segments.iter().zip(&self.cells).map(standing).collect(),
+            segments: self.open_road.segments.iter().zip(&self.cells).map(standing).collect(),
         }
     }
 }

@@ -1,4 +1,4 @@
-//! Compares the forecast engine with an independent model of document 01, and times it against two versions in Rust.
+//! Compares the forecast engine with an independent model of documents 01 and 02, and times it against two versions in Rust.
 
 mod bench;
 mod compare;

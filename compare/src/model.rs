@@ -1,4 +1,4 @@
-//! A model of document 01, written from that document alone and for reading, not for speed.
+//! A model of documents 01 and 02 (Q-1, closed lanes), written from the documents alone and for reading, not for speed.
 
 pub mod facility;
 pub mod numbers;
@@ -11,21 +11,26 @@ use sheets::Refusal;
 
 /// A whole study file, as the program `forecast` treats it.
 pub fn forecast(study: &[u8]) -> Outcome {
-    match run(study) {
-        Ok(forecast) => Outcome::Forecast(forecast),
-        Err(Refusal { number, offset }) => Outcome::Refused { number, place: offset as u64 },
+    outcome(&run(study))
+}
+
+/// What a study that was run comes to.
+pub fn outcome(run: &Result<Facility, Refusal>) -> Outcome {
+    match run {
+        Ok(facility) => Outcome::Forecast(forecast_of(facility)),
+        Err(Refusal { number, offset }) => Outcome::Refused { number: *number, place: *offset as u64 },
     }
 }
 
 /// Lays the road, then takes and runs periods to the end of the file. A refusal's offset counts from the file's start.
-fn run(study: &[u8]) -> Result<Forecast, Refusal> {
+pub fn run(study: &[u8]) -> Result<Facility, Refusal> {
     let (mut facility, mut start) = Facility::lay(study)?;
     while start < study.len() {
         let used = facility.take(&study[start..]).map_err(|refusal| refusal.in_file(start))?;
         facility.run(60)?;
         start += used;
     }
-    Ok(forecast_of(&facility))
+    Ok(facility)
 }
 
 fn forecast_of(facility: &Facility) -> Forecast {
@@ -48,9 +53,9 @@ fn forecast_of(facility: &Facility) -> Forecast {
 mod tests {
     use super::*;
 
-    const WORKED: [u8; 21] = [
+    const WORKED: [u8; 22] = [
         0x01, 0xBE, 0x01, 0x2D, 0x07, 0xA8, 0x0A, 0x02, 0x3C, 0xB0, 0x22, 0x00, 0x00, 0x00, // the road
-        0x01, 0xC0, 0x25, 0x90, 0x4E, 0x00, 0x00, // its one period
+        0x01, 0xC0, 0x25, 0x90, 0x4E, 0x00, 0x00, 0x02, // its one period
     ];
 
     #[test]

@@ -60,12 +60,13 @@ struct Field {
     high: u64,
 }
 
-/// A study as fields, before it is written; `sheets` has the place of each sheet's first field.
+/// A study as fields, before it is written; `sheets` has the place of each sheet's first field, `lanes` the lanes of each segment.
 struct Fields {
     random: Random,
     style: Style,
     all: Vec<Field>,
     sheets: Vec<usize>,
+    lanes: Vec<u64>,
 }
 
 impl Fields {
@@ -109,6 +110,7 @@ impl Fields {
         for _ in 0..ns {
             self.add((300, 26_400), (300, 4_000), (300, 700));
             let lanes = self.add((1, 8), (2, 4), (1, 8));
+            self.lanes.push(lanes);
             self.add((15, 85), (50, 75), (15, 85));
             self.add((1, 20_000), (1_700 * lanes, 2_300 * lanes), (1, 60));
             self.add_or_zero(40, (0, 10_000), (600, 2_000), (0, 40));
@@ -124,18 +126,26 @@ impl Fields {
         self.add((0, 20_000), (500 * peak, 2_000 * peak), (0, 40));
         let open = self.random.chance(60);
         self.add((0, 20_000), if open { (12_000, 20_000) } else { (1_000, 6_000) }, (0, 60));
-        for _ in 0..ns {
+        let closing = self.random.pick(&[0, 0, 0, 15, 50, 100]);
+        for i in 0..ns as usize {
             self.add_or_zero(30, (0, 10_000), (50, 250 * peak), (0, 30));
             self.add_or_zero(10, (0, 10_000), (200, 2_000), (0, 30));
+            self.open_lanes(self.lanes[i], closing);
         }
     }
 
+    /// Adds a segment's open lanes, some closed in `percent` of all cases and then often all but one.
+    fn open_lanes(&mut self, lanes: u64, percent: u64) {
+        let open = match self.random.chance(percent) {
+            true if self.random.chance(50) => 1,
+            true => self.random.within(1, lanes),
+            false => lanes,
+        };
+        self.fixed(open, 1, lanes);
+    }
+
     fn bytes(&self) -> Vec<u8> {
-        let mut bytes = Vec::new();
-        for field in &self.all {
-            numbers::write(field.value, &mut bytes);
-        }
-        bytes
+        written(self.all.iter().map(|field| field.value))
     }
 
     /// The bytes before field `at`, `instead` of that field, and the bytes after it.
@@ -154,6 +164,19 @@ impl Fields {
     fn any_place(&mut self) -> usize {
         self.random.within(0, self.all.len() as u64 - 1) as usize
     }
+
+    /// The place of some open lanes, where there is a period.
+    fn any_open_lanes(&mut self) -> Option<usize> {
+        let periods = &self.sheets[1..];
+        let segment = self.random.within(0, self.lanes.len() as u64 - 1) as usize;
+        (!periods.is_empty()).then(|| self.random.pick(periods) + 5 + 3 * segment)
+    }
+}
+
+fn written(numbers: impl Iterator<Item = u64>) -> Vec<u8> {
+    let mut bytes = Vec::new();
+    numbers.for_each(|number| numbers::write(number, &mut bytes));
+    bytes
 }
 
 /// The study of one seed.
@@ -163,7 +186,7 @@ pub fn study(seed: u64) -> Vec<u8> {
     let ns = segments(&mut random);
     let periods = periods(&mut random, ns);
     let style = random.pick(&STYLES);
-    let mut fields = Fields { random, style, all: Vec::new(), sheets: Vec::new() };
+    let mut fields = Fields { random, style, all: Vec::new(), sheets: Vec::new(), lanes: Vec::new() };
     fields.road(ns);
     for _ in 0..periods {
         fields.period(ns);
@@ -173,7 +196,8 @@ pub fn study(seed: u64) -> Vec<u8> {
         56..=58 => letter_limits(ns, &mut fields.random),
         59..=66 => out_of_range(&mut fields),
         67..=74 => bad_form(&mut fields),
-        75..=80 => wrong_ns(&mut fields),
+        75..=78 => wrong_ns(&mut fields),
+        79..=80 => first_layout(&fields),
         81..=88 => truncated(&mut fields),
         89..=95 => damaged(&mut fields),
         96..=98 => with_tail(&mut fields),
@@ -205,34 +229,39 @@ fn periods(random: &mut Random, ns: u64) -> u64 {
     }
 }
 
-/// Closed segments, each filled by its ramp in one period to a letter's limit, or just short of it, or just past it.
+/// Segments that nobody can leave, each filled by its ramp in one period to a letter's limit, or just short of it, or just past it.
+/// The limit is that of the lanes that are open at last: from the start, or under a second sheet that brings no one.
 fn letter_limits(ns: u64, random: &mut Random) -> Vec<u8> {
     let mut road = vec![ns, random.within(200, 300), random.within(30, 60), random.within(0, 50)];
-    let mut period = vec![ns, 0, random.within(0, 20_000)];
+    let mut filling = vec![ns, 0, random.within(0, 20_000)];
+    let mut closing = filling.clone();
+    let two_sheets = random.chance(50);
     for _ in 0..ns {
         let limit = random.pick(&[11, 18, 26, 35, 45]);
         let lanes = random.within(1, 8);
-        // 60 steps of a demand d fill a length of 22 * 60 * d / (limit * lanes) to the limit
-        let mut demand = random.within(1_000, 25_000) * limit * lanes / 1_320;
+        let open = random.within(1, lanes);
+        // 60 steps of a demand d fill a length of 22 * 60 * d / (limit * open) to the limit
+        let mut demand = random.within(1_000, 25_000) * limit * open / 1_320;
         if random.chance(50) {
             demand = demand / limit * limit;
         }
-        let length = 1_320 * demand / (limit * lanes) + random.within(0, 1);
+        let length = 1_320 * demand / (limit * open) + random.within(0, 1);
         road.extend([length.clamp(300, 26_400), lanes, random.within(15, 85), 20_000, 10_000, 1_000, 0]);
-        period.extend([demand, 10_000]);
+        filling.extend([demand, 10_000, if two_sheets { lanes } else { open }]);
+        closing.extend([0, 10_000, open]);
     }
-    let mut bytes = Vec::new();
-    for number in road.into_iter().chain(period) {
-        numbers::write(number, &mut bytes);
+    if !two_sheets {
+        closing.clear();
     }
-    bytes
+    written([road, filling, closing].into_iter().flatten())
 }
 
-/// One field just outside its range, or far outside.
+/// One field just outside its range, or far outside; often some open lanes.
 fn out_of_range(fields: &mut Fields) -> Vec<u8> {
-    let at = fields.any_place();
+    let open_lanes = fields.any_open_lanes().filter(|_| fields.random.chance(50));
+    let at = open_lanes.unwrap_or_else(|| fields.any_place());
     let Field { low, high, .. } = fields.all[at];
-    let far = fields.random.pick(&[high + 1, high + 128, 65_536, 4_294_967_295]);
+    let far = fields.random.pick(&[high + 128, 65_536, 4_294_967_295]);
     fields.all[at].value = match fields.random.chance(50) {
         true if low > 0 => fields.random.pick(&[0, low - 1, low - 1]),
         _ => fields.random.pick(&[high + 1, far]),
@@ -275,6 +304,18 @@ fn wrong_ns(fields: &mut Fields) -> Vec<u8> {
     let at = fields.sheets[sheet];
     fields.all[at].value = value;
     fields.bytes()
+}
+
+/// The study in the first layout, whose sheets have no open lanes: its numbers are then read as others.
+fn first_layout(fields: &Fields) -> Vec<u8> {
+    let ns = fields.lanes.len();
+    let (road, sheets) = fields.all.split_at(4 + 7 * ns);
+    let without = |sheet: &'_ [Field]| {
+        let kept = sheet.iter().enumerate().filter(|(i, _)| *i < 3 || i % 3 < 2);
+        kept.map(|(_, field)| field.value).collect::<Vec<_>>()
+    };
+    let road = road.iter().map(|field| field.value);
+    written(road.chain(sheets.chunks(3 + 3 * ns).flat_map(without)))
 }
 
 /// The study cut short, often within its last sheet.

@@ -1,7 +1,8 @@
 //! The engine's job in Rust tuned for speed by hand: the second thing that the engine is timed against.
 //!
-//! Whatever a step needs that does not change from step to step is worked out once, a step is one pass over the
-//! segments, the two "largest y" are closed forms, and no division is made whose result is known beforehand.
+//! Whatever a step needs that does not change from step to step is worked out once: by the road, by the period, and what
+//! depends on the open lanes when their number changes. A step is one pass over the segments, the two "largest y" are
+//! closed forms, and no division is made whose result is known beforehand.
 
 use crate::outcome::{Forecast, Outcome, Standing};
 use std::hint::black_box;
@@ -82,7 +83,16 @@ impl Reader<'_> {
     }
 }
 
+/// What the road has for all segments.
+#[derive(Clone, Copy)]
+struct Common {
+    jam_density: u64,
+    capacity_density: u64,
+    drop: u64,
+}
+
 struct Facility {
+    common: Common,
     segments: Vec<Segment>,
     origin: u64,
     mainline_demand: u64,
@@ -98,14 +108,17 @@ struct Segment {
     length: u64,
     lanes: u64,
     reach: u64,
-    capacity: u64,
-    dropped_capacity: u64,
+    full_capacity: u64,
     ramp_capacity: u64,
     share: u64,
-    jam: u64,
-    at_capacity: u64,
     /// The most that can leave before the off-ramp is full.
     off_limit: u64,
+    // from the open lanes
+    open: u64,
+    capacity: u64,
+    dropped_capacity: u64,
+    jam: u64,
+    at_capacity: u64,
     // from the period
     ramp_demand: u64,
     ramp_limit: u64,
@@ -124,12 +137,14 @@ struct Leaving<'a> {
 impl Facility {
     fn lay(reader: &mut Reader) -> Result<Facility, Refusal> {
         let ns = reader.field(1..=64)?;
-        let jam_density = reader.field(100..=300)?;
-        let capacity_density = reader.field(30..=60)?;
-        let drop = reader.field(0..=50)?;
-        let segments = (0..ns).map(|_| Segment::lay(reader, jam_density, capacity_density, drop));
+        let common = Common {
+            jam_density: reader.field(100..=300)?,
+            capacity_density: reader.field(30..=60)?,
+            drop: reader.field(0..=50)?,
+        };
         Ok(Facility {
-            segments: segments.collect::<Result<_, _>>()?,
+            common,
+            segments: (0..ns).map(|_| Segment::lay(reader, common)).collect::<Result<_, _>>()?,
             origin: 0,
             mainline_demand: 0,
             exit_capacity: 0,
@@ -149,6 +164,10 @@ impl Facility {
         for segment in &mut self.segments {
             segment.ramp_demand = reader.field(0..=10_000)?;
             segment.ramp_limit = reader.field(0..=10_000)?.min(segment.ramp_capacity);
+            let open = reader.field(1..=segment.lanes)?;
+            if open != segment.open {
+                segment.open_lanes(open, self.common);
+            }
             self.arriving += segment.ramp_demand;
         }
         Ok(())
@@ -196,30 +215,44 @@ impl Facility {
 }
 
 impl Segment {
-    fn lay(reader: &mut Reader, jam_density: u64, capacity_density: u64, drop: u64) -> Result<Segment, Refusal> {
+    fn lay(reader: &mut Reader, common: Common) -> Result<Segment, Refusal> {
         let length = reader.field(300..=26_400)?;
         let lanes = reader.field(1..=8)?;
         let speed = reader.field(15..=85)?;
-        let capacity = reader.field(1..=20_000)?;
+        let full_capacity = reader.field(1..=20_000)?;
         let ramp_capacity = reader.field(0..=10_000)?;
         let share = reader.field(0..=1_000)?;
         let off_capacity = reader.field(0..=10_000)?;
-        Ok(Segment {
+        let mut segment = Segment {
             length,
             lanes,
             reach: 22 * speed,
-            capacity,
-            dropped_capacity: capacity * (100 - drop) / 100,
+            full_capacity,
             ramp_capacity,
             share,
-            jam: jam_density * lanes * length / 22,
-            at_capacity: capacity_density * lanes * length / 22,
             off_limit: (1000 * off_capacity + 999).checked_div(share).unwrap_or(u64::MAX),
+            open: 0,
+            capacity: 0,
+            dropped_capacity: 0,
+            jam: 0,
+            at_capacity: 0,
             ramp_demand: 0,
             ramp_limit: 0,
             n: 0,
             q: 0,
-        })
+        };
+        segment.open_lanes(lanes, common);
+        Ok(segment)
+    }
+
+    /// Works out what depends on the open lanes.
+    fn open_lanes(&mut self, open: u64, common: Common) {
+        let area = self.length * open;
+        self.open = open;
+        self.capacity = if open == self.lanes { self.full_capacity } else { self.full_capacity * open / self.lanes };
+        self.dropped_capacity = self.capacity * (100 - common.drop) / 100;
+        self.jam = common.jam_density * area / 22;
+        self.at_capacity = common.capacity_density * area / 22;
     }
 
     fn off(&self, leaving: u64) -> u64 {
@@ -238,7 +271,7 @@ impl Segment {
 
     fn supply(&self, queue_before: bool) -> u64 {
         let entrance = if queue_before { self.dropped_capacity } else { self.capacity };
-        let room = self.jam - self.n;
+        let room = self.jam.saturating_sub(self.n);
         if self.n <= self.at_capacity {
             // the queue's limit is then no less than the capacity
             entrance.min(room)
@@ -253,7 +286,7 @@ impl Segment {
         if wish <= spare {
             wish
         } else {
-            wish.min(spare.max(supply / (2 * self.lanes)))
+            wish.min(spare.max(supply / (2 * self.open)))
         }
     }
 
@@ -262,7 +295,7 @@ impl Segment {
     }
 
     fn letter(&self) -> u8 {
-        let area = self.length * self.lanes;
+        let area = self.length * self.open;
         match 22 * self.n {
             density if density <= 11 * area => b'A',
             density if density <= 18 * area => b'B',

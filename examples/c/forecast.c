@@ -13,8 +13,8 @@
 #include "freeway_forecast.h"
 
 /*
- * The longest study that is accepted takes 26,149 bytes: a road of 64 segments takes at most 901, and each of 96
- * periods at most 263. A longer one is refused for what stands within these bytes or the few after them, so that the
+ * The longest study that is accepted takes 32,293 bytes: a road of 64 segments takes at most 901, and each of 96
+ * periods at most 327. A longer one is refused for what stands within these bytes or the few after them, so that the
  * rest needs no reading.
  */
 #define LONGEST_STUDY 32768

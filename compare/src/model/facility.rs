@@ -9,6 +9,8 @@ const MOST_PERIODS: u64 = 96;
 #[derive(Clone, Debug)]
 pub struct Facility {
     road: Road,
+    /// The road by the open lanes of the sheet in force; before any sheet all are open.
+    road_in_force: Road,
     state: State,
     last: Flows,
     /// The sheet in force with the steps made under it.
@@ -42,6 +44,7 @@ impl Facility {
         let (road, used) = sheets::read_road(bytes)?;
         let ns = road.segments.len();
         let facility = Facility {
+            road_in_force: road.clone(),
             road,
             state: State::fresh(ns),
             last: Flows::none(ns),
@@ -62,10 +65,16 @@ impl Facility {
         if self.taken == MOST_PERIODS {
             return Err(Refusal::plain(13));
         }
-        let (period, used) = sheets::read_period(bytes, self.segments())?;
-        self.in_force = Some((period, 0));
+        let (period, used) = sheets::read_period(bytes, &self.road)?;
+        self.put_in_force(period);
         self.taken += 1;
         Ok(used)
+    }
+
+    /// Puts a sheet in force, with no step made under it yet.
+    pub fn put_in_force(&mut self, period: Period) {
+        self.road_in_force = step::in_force(&self.road, &period);
+        self.in_force = Some((period, 0));
     }
 
     /// Runs k steps under the sheet in force.
@@ -78,8 +87,8 @@ impl Facility {
             return Err(Refusal::plain(11));
         }
         for _ in 0..k {
-            self.last = step::step(&self.road, period, &mut self.state);
-            self.arrived += period.demand + period.ramps.iter().map(|ramp| ramp.demand).sum::<u64>();
+            self.last = step::step(&self.road_in_force, period, &mut self.state);
+            self.arrived += period.demand + period.entries.iter().map(|entry| entry.ramp_demand).sum::<u64>();
             self.left += self.last.f[self.road.segments.len()];
             for (segment, &y) in self.road.segments.iter().zip(&self.last.y) {
                 self.left += step::off(segment, y);
@@ -96,7 +105,7 @@ impl Facility {
             return Err(Refusal::plain(6));
         }
         let i = number as usize - 1;
-        let segment = &self.road.segments[i];
+        let segment = &self.road_in_force.segments[i];
         Ok(Report {
             n: self.state.n[i],
             q: self.state.q[i],
@@ -115,6 +124,27 @@ impl Facility {
     /// NS
     pub fn segments(&self) -> u64 {
         self.road.segments.len() as u64
+    }
+
+    /// Whether the sheet in force closes a lane.
+    pub fn has_closed_lane(&self) -> bool {
+        let lanes = |road: &Road| road.segments.iter().map(|segment| segment.lanes).sum::<u64>();
+        lanes(&self.road_in_force) < lanes(&self.road)
+    }
+
+    /// Whether it leaves a segment no capacity.
+    pub fn has_segment_without_capacity(&self) -> bool {
+        self.road_in_force.segments.iter().any(|segment| segment.capacity == 0)
+    }
+
+    /// Whether a segment is above the jam of its open lanes.
+    pub fn has_segment_above_jam(&self) -> bool {
+        let mut segments = self.road_in_force.segments.iter().zip(&self.state.n);
+        segments.any(|(segment, &n)| n > step::jam(&self.road_in_force, segment))
+    }
+
+    pub fn road(&self) -> &Road {
+        &self.road
     }
 
     /// o, the queue before node 1.

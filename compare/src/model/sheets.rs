@@ -57,13 +57,15 @@ pub struct Period {
     pub demand: u64,
     /// X
     pub exit_capacity: u64,
-    pub ramps: Vec<Ramp>,
+    pub entries: Vec<Entry>,
 }
 
+/// A segment's entry in a period sheet.
 #[derive(Clone, Debug)]
-pub struct Ramp {
-    pub demand: u64,
+pub struct Entry {
+    pub ramp_demand: u64,
     pub meter: u64,
+    pub open_lanes: u64,
 }
 
 /// Reads one field after the other from the front of the bytes.
@@ -114,14 +116,19 @@ pub fn read_road(bytes: &[u8]) -> Result<(Road, usize), Refusal> {
     Ok((road, fields.used))
 }
 
-/// The period at the front of `bytes` for a road of `ns` segments, and how many bytes it takes.
-pub fn read_period(bytes: &[u8], ns: u64) -> Result<(Period, usize), Refusal> {
+/// The period at the front of `bytes` for a road, and how many bytes it takes.
+pub fn read_period(bytes: &[u8], road: &Road) -> Result<(Period, usize), Refusal> {
     let mut fields = Fields { bytes, used: 0 };
+    let ns = road.segments.len() as u64;
     fields.next_or(ns..=ns, 14)?;
     let mut period =
-        Period { demand: fields.next(0..=20_000)?, exit_capacity: fields.next(0..=20_000)?, ramps: Vec::new() };
-    for _ in 0..ns {
-        period.ramps.push(Ramp { demand: fields.next(0..=10_000)?, meter: fields.next(0..=10_000)? });
+        Period { demand: fields.next(0..=20_000)?, exit_capacity: fields.next(0..=20_000)?, entries: Vec::new() };
+    for segment in &road.segments {
+        period.entries.push(Entry {
+            ramp_demand: fields.next(0..=10_000)?,
+            meter: fields.next(0..=10_000)?,
+            open_lanes: fields.next(1..=segment.lanes)?,
+        });
     }
     Ok((period, fields.used))
 }
@@ -137,11 +144,16 @@ pub fn write_road(road: &Road) -> Vec<u8> {
 
 /// The period's bytes.
 pub fn write_period(period: &Period) -> Vec<u8> {
-    let mut fields = vec![period.ramps.len() as u64, period.demand, period.exit_capacity];
-    for ramp in &period.ramps {
-        fields.extend([ramp.demand, ramp.meter]);
+    written(&period_numbers(period))
+}
+
+/// The period's numbers, in the order of its sheet.
+pub fn period_numbers(period: &Period) -> Vec<u64> {
+    let mut fields = vec![period.entries.len() as u64, period.demand, period.exit_capacity];
+    for entry in &period.entries {
+        fields.extend([entry.ramp_demand, entry.meter, entry.open_lanes]);
     }
-    written(&fields)
+    fields
 }
 
 fn written(fields: &[u64]) -> Vec<u8> {

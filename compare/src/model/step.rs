@@ -1,4 +1,6 @@
-//! One step, rule by rule. Segment i of the document is index i - 1 here; node i is the entrance of segment i.
+//! One step, rule by rule. Segment i of the documents is index i - 1 here; node i is the entrance of segment i.
+//!
+//! The rules are those of a road in force: N is the number of open lanes there, and C the capacity that these have.
 
 use super::sheets::{Period, Road, Segment};
 
@@ -34,8 +36,18 @@ impl Flows {
     }
 }
 
+/// The road that is in force under a sheet: of each segment only the open lanes count, and their part of its capacity.
+pub fn in_force(road: &Road, period: &Period) -> Road {
+    let mut in_force = road.clone();
+    for (segment, entry) in in_force.segments.iter_mut().zip(&period.entries) {
+        segment.capacity = segment.capacity * entry.open_lanes / segment.lanes;
+        segment.lanes = entry.open_lanes;
+    }
+    in_force
+}
+
 /// J: what the segment holds when jammed.
-fn jam(road: &Road, segment: &Segment) -> u64 {
+pub fn jam(road: &Road, segment: &Segment) -> u64 {
     road.jam_density * segment.lanes * segment.length / 22
 }
 
@@ -91,9 +103,9 @@ fn entrance_capacity(road: &Road, segment: &Segment, queue_before: bool) -> u64 
     }
 }
 
-/// P: what a segment that holds n can take.
+/// P: what a segment that holds n can take; above its jam, where closed lanes may leave it, that is nothing.
 fn supply(road: &Road, segment: &Segment, n: u64, queue_before: bool) -> u64 {
-    let room = jam(road, segment) - n;
+    let room = jam(road, segment).saturating_sub(n);
     let backward = segment.capacity * room / (jam(road, segment) - at_capacity(road, segment));
     entrance_capacity(road, segment, queue_before).min(room).min(backward)
 }
@@ -109,12 +121,12 @@ fn leaving(segment: &Segment, y0: u64, let_in: u64) -> u64 {
     largest(y0, |y| through(segment, y) <= let_in)
 }
 
-/// One step: every flow is worked out from the state at the step's start, then all move at once.
+/// One step on a road in force: every flow is worked out from the state at the step's start, then all move at once.
 pub fn step(road: &Road, period: &Period, state: &mut State) -> Flows {
     let flows = flows(road, period, state);
     for i in 0..road.segments.len() {
         state.n[i] = state.n[i] + flows.f[i] + flows.r[i] - flows.y[i];
-        state.q[i] = state.q[i] + period.ramps[i].demand - flows.r[i];
+        state.q[i] = state.q[i] + period.entries[i].ramp_demand - flows.r[i];
     }
     state.o = state.o + period.demand - flows.f[0];
     flows
@@ -135,8 +147,8 @@ fn flows(road: &Road, period: &Period, state: &State) -> Flows {
             _ => state.n[i - 1] > at_capacity(road, &road.segments[i - 1]),
         };
         let p = supply(road, segment, state.n[i], queue_before);
-        let ramp = &period.ramps[i];
-        let w = (state.q[i] + ramp.demand).min(segment.ramp_capacity).min(ramp.meter);
+        let entry = &period.entries[i];
+        let w = (state.q[i] + entry.ramp_demand).min(segment.ramp_capacity).min(entry.meter);
         (flows.r[i], flows.f[i]) = merge(p, wish(i), w, segment.lanes);
     }
     flows.f[ns] = wish(ns).min(period.exit_capacity);
@@ -155,6 +167,7 @@ pub fn letter(segment: &Segment, n: u64) -> u8 {
 
 #[cfg(test)]
 mod tests {
+    use super::super::sheets::Entry;
     use super::*;
 
     fn split(share: u64, off_capacity: u64) -> Segment {
@@ -175,6 +188,39 @@ mod tests {
         assert_eq!(leaving(&segment, 7, 4), 5);
         assert_eq!(off(&segment, 5), 1);
         assert_eq!(could_leave(&segment, 9), 7);
+    }
+
+    /// A road of one segment, 8 lanes of 300 ft, with so many lanes open.
+    fn with_open_lanes(capacity: u64, open_lanes: u64) -> Road {
+        let segment = Segment { lanes: 8, capacity, ..split(0, 0) };
+        let road = Road { jam_density: 190, capacity_density: 45, drop: 7, segments: vec![segment] };
+        let entry = Entry { ramp_demand: 0, meter: 0, open_lanes };
+        in_force(&road, &Period { demand: 0, exit_capacity: 0, entries: vec![entry] })
+    }
+
+    #[test]
+    fn capacity_of_open_lanes() {
+        let capacity = |c, open_lanes| with_open_lanes(c, open_lanes).segments[0].capacity;
+        assert_eq!([1, 7, 8].map(|open_lanes| capacity(1, open_lanes)), [0, 0, 1]);
+        assert_eq!([1, 5, 8].map(|open_lanes| capacity(7_999, open_lanes)), [999, 4_999, 7_999]);
+        // the drop rounds a second time: 4,999 * 93 / 100
+        let road = with_open_lanes(7_999, 5);
+        assert_eq!(entrance_capacity(&road, &road.segments[0], true), 4_649);
+    }
+
+    #[test]
+    fn jam_and_letter_of_open_lanes() {
+        let (open, closed) = (with_open_lanes(8_000, 8), with_open_lanes(8_000, 3));
+        assert_eq!([&open, &closed].map(|road| jam(road, &road.segments[0])), [20_727, 7_772]);
+        assert_eq!([&open, &closed].map(|road| at_capacity(road, &road.segments[0])), [4_909, 1_840]);
+        assert_eq!([&open, &closed].map(|road| letter(&road.segments[0], 1_200)), [b'A', b'D']);
+    }
+
+    #[test]
+    fn nothing_enters_above_the_jam() {
+        let road = with_open_lanes(8_000, 3);
+        let taken = |n| supply(&road, &road.segments[0], n, false);
+        assert_eq!([7_770, 7_771, 7_772, 7_773, 20_727].map(taken), [1, 0, 0, 0, 0]);
     }
 
     #[test]

@@ -9,11 +9,11 @@ use lib.ListN.{length, getD, set, length-set}
 use lib.Seq.{getD-set-same, getD-set-other}
 use Rattle.parts.specs.declared.RoadGlobals.{RoadGlobals}
 use Rattle.parts.specs.declared.Segment.{Segment}
-use Rattle.parts.specs.declared.Ramp.{Ramp}
-use Rattle.parts.specs.Parts.{roadGlobals, segmentOf, periodGlobals, rampOf}
+use Rattle.parts.specs.declared.Entry.{Entry}
+use Rattle.parts.specs.Parts.{roadGlobals, segmentOf, periodGlobals, entryOf}
 use Rattle.parts.specs.Good.{GoodRoad, GoodPeriod}
 use Rattle.conditions.specs.declared.InForce.{InForce}
-use Rattle.conditions.specs.Conditions.{inForce, segments, Under, inForceOf, demandUnder, outletUnder, rampUnder, conditionsOf}
+use Rattle.conditions.specs.Conditions.{inForce, segments, Under, inForceOf, demandUnder, outletUnder, entryUnder, conditionsOf}
 use Rattle.conditions.specs.Shortcuts.{shortcutsOf}
 use Rattle.conditions.specs.Good.{GoodPlace}
 use Rattle.conditions.proofs.Good.{good-globals, good-place}
@@ -61,17 +61,17 @@ filling-start road period g ns a b d row e n l p q r =
     }
 
 module _ (road period : List ℕ) (g : RoadGlobals) (ns i : ℕ) (row : List ℕ) (at : Filling road period g ns row i) where
-  module _ (good : GoodRoad road) (sheet : GoodPeriod road period) (h : i < ns) (seg : Segment) (ramp : Ramp) (here : InForce)
-      (s : seg ≡ segmentOf road i) (r : ramp ≡ rampOf period i) (e : here ≡ inForce g seg ramp) where
+  module _ (good : GoodRoad road) (sheet : GoodPeriod road period) (h : i < ns) (seg : Segment) (entry : Entry) (here : InForce)
+      (s : seg ≡ segmentOf road i) (r : entry ≡ entryOf period i) (e : here ≡ inForce g seg entry) where
     is-in-force : here ≡ inForceOf road (Under period) i
-    unfolding rampUnder
+    unfolding entryUnder
     is-in-force = rw (e, s, r, at .globals-are)
 
     pub filling-fits : (i < 64) × GoodPlace here
-    unfolding rampUnder
+    unfolding entryUnder
     filling-fits =
         let l : i < segments road = omega (arith, at .all) in
-        (omega (arith, at .all, good .segments .1), rw is-in-force (good-place _ _ _ (good-globals road good) (good .segment i l) (sheet .ramp i l .0)))
+        (omega (arith, at .all, good .segments .1), rw is-in-force (good-place _ _ _ (good-globals road good) (good .segment i l) (sheet .entry i l)))
 
     room : startOf i + 12 < length row
     room = omega (arith, at .long, filling-fits .0)
@@ -101,7 +101,7 @@ module _ (road period : List ℕ) (g : RoadGlobals) (ns i : ℕ) (row : List ℕ
     }
 
   pub filling-done : ns ≤ i → conditionsIn row ≡ conditionsOf road (Under period)
-  unfolding conditionsIn conditionsOf demandUnder outletUnder rampUnder
+  unfolding conditionsIn conditionsOf demandUnder outletUnder entryUnder
   filling-done h =
       let n : i ≡ segments road = omega (arith, at .up-to, at .all) in
       rw (at .second, at .third, at .first, values-same (inForceIn row) (inForceOf road (Under period)) (segments road) (λ j l. at .filled j (omega arith)))

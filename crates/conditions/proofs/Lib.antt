@@ -1,3 +1,4 @@
+pub mod Examples
 pub mod Values
 pub mod Puts
 pub mod Row

@@ -1,46 +1,52 @@
--- Document 01, "One step": what is in force while a step is made (NS, the mainline demand, the exit capacity X, and at each segment the
--- numbers that the rules go by there). Here alone a road and a period sheet become conditions.
+-- Document 01, "One step", and document 02, Q-1, closed lanes: what is in force while a step is made (NS, the mainline demand, the exit
+-- capacity X, and at each segment the numbers that the rules go by there). Here alone a road and a period sheet become conditions.
 use Prim.Native.Nat.{ℕ, _-_, _*_, _/_, min}
 use mathlib.Core.List.{List}
 use lib.ListN.{getD}
 use Rattle.parts.specs.declared.RoadGlobals.{RoadGlobals}
 use Rattle.parts.specs.declared.Segment.{Segment}
-use Rattle.parts.specs.declared.Ramp.{Ramp}
-use Rattle.parts.specs.Parts.{roadGlobals, segmentOf, periodGlobals, rampOf}
+use Rattle.parts.specs.declared.Entry.{Entry}
+use Rattle.parts.specs.Parts.{roadGlobals, segmentOf, periodGlobals, entryOf}
 use Rattle.conditions.specs.declared.InForce.{InForce}
 use Rattle.conditions.specs.Values.{valuesTo}
 
--- J = KJ × N × L / 22, the jam, from the jam density; Q = KC × N × L / 22, from the density at capacity
+-- the capacity with some of the N lanes open: C × open / N
+unfoldable pub openCapacity : (capacity lanes opened : ℕ) → ℕ
+openCapacity c n k = c * k / n
+
+-- J = KJ × open × L / 22, the jam, from the jam density; Q = KC × open × L / 22, from the density at capacity
 unfoldable pub partsAt : (density lanes length : ℕ) → ℕ
 partsAt k n l = k * n * l / 22
 
--- C behind a queue: C × (100 − A) / 100
+-- the capacity behind a queue: C × (100 − A) / 100, C the capacity in force
 unfoldable pub loweredBy : (cut capacity : ℕ) → ℕ
 loweredBy a c = c * (100 - a) / 100
 
--- what is in force at a segment, from the road's KJ, KC and A, the segment, and its ramp's entry in the sheet: L, V, N, C, C behind a queue,
--- J, Q, the lesser of R and the meter rate, s, F and the ramp demand
-unfoldable pub inForce : RoadGlobals → Segment → Ramp → InForce
-inForce g seg ramp = record {
-  length = seg .length;
-  speed = seg .speed;
-  lanes = seg .lanes;
-  capacity = seg .capacity;
-  lowered = loweredBy (g .cut) (seg .capacity);
-  jam = partsAt (g .jam) (seg .lanes) (seg .length);
-  critical = partsAt (g .critical) (seg .lanes) (seg .length);
-  limit = min (seg .onramp) (ramp .meter);
-  share = seg .share;
-  offramp = seg .offramp;
-  demand = ramp .demand;
-}
+-- what is in force at a segment, from the road's KJ, KC and A, the segment, and its entry in the sheet: L, V, the open lanes, the capacity
+-- with these, the same behind a queue, J, Q, the lesser of R and the meter rate, s, F and the ramp demand
+unfoldable pub inForce : RoadGlobals → Segment → Entry → InForce
+inForce g seg entry =
+    let capacity = openCapacity (seg .capacity) (seg .lanes) (entry .opened) in
+    record {
+      length = seg .length;
+      speed = seg .speed;
+      lanes = entry .opened;
+      capacity = capacity;
+      lowered = loweredBy (g .cut) capacity;
+      jam = partsAt (g .jam) (entry .opened) (seg .length);
+      critical = partsAt (g .critical) (entry .opened) (seg .length);
+      limit = min (seg .onramp) (entry .meter);
+      share = seg .share;
+      offramp = seg .offramp;
+      demand = entry .demand;
+    }
 
 -- the sheet in force: none before the first is taken
 pub data SheetInForce : Type 0 where
   None : SheetInForce
   Under : List ℕ → SheetInForce
 
--- without a sheet nobody arrives, every ramp is held and the exit is shut
+-- without a sheet nobody arrives, every ramp is held, the exit is shut, and the road's own lanes are open
 unfoldable pub demandUnder : SheetInForce → ℕ
 demandUnder None = 0
 demandUnder (Under period) = periodGlobals period .demand
@@ -49,9 +55,9 @@ unfoldable pub outletUnder : SheetInForce → ℕ
 outletUnder None = 0
 outletUnder (Under period) = periodGlobals period .outlet
 
-unfoldable pub rampUnder : SheetInForce → ℕ → Ramp
-rampUnder None i = record { demand = 0; meter = 0 }
-rampUnder (Under period) i = rampOf period i
+unfoldable pub entryUnder : (road : List ℕ) → SheetInForce → ℕ → Entry
+entryUnder road None i = record { demand = 0; meter = 0; opened = segmentOf road i .lanes }
+entryUnder road (Under period) i = entryOf period i
 
 -- NS, the mainline demand, X, and what is in force at each segment
 pub record Conditions : Type 0 where
@@ -66,7 +72,7 @@ segments road = roadGlobals road .segments
 
 -- what is in force at segment i, counted from 0, of a road under the sheet in force
 abbrev pub inForceOf : List ℕ → SheetInForce → ℕ → InForce
-inForceOf road sheet i = inForce (roadGlobals road) (segmentOf road i) (rampUnder sheet i)
+inForceOf road sheet i = inForce (roadGlobals road) (segmentOf road i) (entryUnder road sheet i)
 
 -- the conditions of a road under the sheet in force
 unfoldable pub conditionsOf : List ℕ → SheetInForce → Conditions

@@ -1,19 +1,19 @@
 // What is in force while a step is made, worked out once from a road and a period sheet into a row of numbers.
 use arithmetic::least;
-use parts::Ramp;
+use parts::Entry;
 use parts::RoadGlobals;
 use parts::Segment;
 ghost use mathlib.Core.Path.{_≡_};
 ghost use Prim.Native.Nat.{_≤_, _<_};
 ghost use lib.ListN.{length};
-ghost use Rattle.parts.specs.Good.{GoodSegment, GoodRoad, GoodPeriod};
-ghost use Rattle.conditions.specs.Conditions.{partsAt, loweredBy, inForce, Under, conditionsOf, inForceAt};
+ghost use Rattle.parts.specs.Good.{GoodSegment, GoodRoad, GoodEntry, GoodPeriod};
+ghost use Rattle.conditions.specs.Conditions.{openCapacity, partsAt, loweredBy, inForce, Under, conditionsOf, inForceAt};
 ghost use Rattle.conditions.specs.Shortcuts.{easyBelow, fullFrom, shortcutsOf};
 ghost use Rattle.conditions.specs.Good.{GoodGlobals, GoodPlace};
 ghost use Rattle.conditions.specs.Row.{withInForce, conditionsIn, HasShortcuts};
 
-// What is in force at a segment: length L, speed V, lanes N, capacity C, C lowered behind a queue, the jam J, the critical parts Q, the limit of
-// the ramp (the lesser of R and the meter rate), off-ramp share s, off-ramp capacity F, and ramp demand.
+// What is in force at a segment: length L, speed V, the open lanes, the capacity with these, the same lowered behind a queue, the jam J, the
+// critical parts Q, the limit of the ramp (the lesser of R and the meter rate), off-ramp share s, off-ramp capacity F, and ramp demand.
 pub struct InForce {
     pub length: u32,
     pub speed: u32,
@@ -36,6 +36,17 @@ pub struct Shortcuts {
     pub full: u32,
 }
 
+// C with some of the lanes open. With all of them it is C, and not worked out.
+fn open_capacity(capacity: u32, lanes: u32, opened: u32) -> u32
+    requires { ⌜ (capacity ≤ 20000) × (1 ≤ lanes) × (opened ≤ 8) ⌝ }
+    ensures { λ r. ⌜ r ≡ openCapacity capacity lanes opened ⌝ }
+{
+    if opened == lanes {
+        return capacity;
+    }
+    capacity * opened / lanes
+}
+
 // J by the jam density, Q by the density at capacity.
 fn parts_at(density: u32, lanes: u32, length: u32) -> u32
     requires { ⌜ (density ≤ 300) × (lanes ≤ 8) × (length ≤ 26400) ⌝ }
@@ -44,7 +55,7 @@ fn parts_at(density: u32, lanes: u32, length: u32) -> u32
     density * lanes * length / 22
 }
 
-// C behind a queue.
+// The capacity behind a queue.
 fn lowered_by(cut: u32, capacity: u32) -> u32
     requires { ⌜ (cut ≤ 50) × (capacity ≤ 20000) ⌝ }
     ensures { λ r. ⌜ r ≡ loweredBy cut capacity ⌝ }
@@ -52,23 +63,24 @@ fn lowered_by(cut: u32, capacity: u32) -> u32
     capacity * (100 - cut) / 100
 }
 
-// What is in force at a segment, by the road's globals, the segment and its ramp's entry in the sheet.
-fn in_force(g: RoadGlobals, seg: Segment, ramp: Ramp) -> InForce
-    requires { ⌜ GoodGlobals g × GoodSegment seg ⌝ }
-    ensures { λ r. ⌜ r ≡ inForce g seg ramp ⌝ }
+// What is in force at a segment, by the road's globals, the segment and its entry in the sheet.
+fn in_force(g: RoadGlobals, seg: Segment, entry: Entry) -> InForce
+    requires { ⌜ GoodGlobals g × GoodSegment seg × GoodEntry seg entry ⌝ }
+    ensures { λ r. ⌜ r ≡ inForce g seg entry ⌝ }
 {
+    let capacity = open_capacity(seg.capacity, seg.lanes, entry.opened);
     InForce {
         length: seg.length,
         speed: seg.speed,
-        lanes: seg.lanes,
-        capacity: seg.capacity,
-        lowered: lowered_by(g.cut, seg.capacity),
-        jam: parts_at(g.jam, seg.lanes, seg.length),
-        critical: parts_at(g.critical, seg.lanes, seg.length),
-        limit: least(seg.onramp, ramp.meter),
+        lanes: entry.opened,
+        capacity,
+        lowered: lowered_by(g.cut, capacity),
+        jam: parts_at(g.jam, entry.opened, seg.length),
+        critical: parts_at(g.critical, entry.opened, seg.length),
+        limit: least(seg.onramp, entry.meter),
         share: seg.share,
         offramp: seg.offramp,
-        demand: ramp.demand,
+        demand: entry.demand,
     }
 }
 
@@ -146,7 +158,7 @@ pub fn work_out(road: &[u32; 452], period: &[u32; 452], row: &mut [u32; 835])
         let here = in_force(
             g,
             parts::segment_at(road, i as u32),
-            parts::ramp_at(period, i as u32),
+            parts::entry_at(period, i as u32),
         );
         put_in_force(row, i, here);
         i += 1;

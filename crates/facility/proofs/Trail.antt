@@ -14,9 +14,9 @@ use Rattle.parts.proofs.Good.{good-road, good-period, read-period-allowed}
 use Rattle.numbers.specs.Row.{Rows, ReadRow, RefusedAt}
 use Rattle.sheets.specs.Read.{padded}
 use Rattle.segment.specs.declared.Cell.{Cell}
-use Rattle.conditions.specs.Conditions.{Conditions, inForceAt, inForce, SheetInForce, None, Under, conditionsOf, segments}
+use Rattle.conditions.specs.Conditions.{Conditions, SheetInForce, None, Under, conditionsOf, segments}
 use Rattle.steps.specs.Step.{cellIn, stepped, freshState, arrivedOf, leftOf, storedOf, sumTo}
-use Rattle.conditions.proofs.Good.{GoodSheet, none as none-sheet, under, good-conditions, in-force-at, conditions-segments}
+use Rattle.conditions.proofs.Good.{GoodSheet, none as none-sheet, under, good-conditions, conditions-segments}
 use Rattle.steps.specs.Bounded.{Bounded}
 use Rattle.steps.proofs.Laws.{stepped-length}
 use Rattle.steps.proofs.Bounds.{bounded-after, bounded-fresh, cell-fresh, arrived-most, left-most}
@@ -28,21 +28,15 @@ use Rattle.facility.proofs.Verdicts.{take-accepted, run-accepted}
 use Rattle.facility.specs.Claims.{Every, none, and, Chained, start, link, Right, Balanced, nothing, still}
 use Rattle.door.proofs.Sound.{BoundedSums}
 
--- the invariant of a trail on a road: its steps are right, and what it leaves is bounded and at most the jam, under any sheet
+-- the invariant of a trail on a road: its steps are right, and what it leaves is bounded
 pub record KeptTrail (road : List ℕ) (t : Trail) : Type 0 where
   pub right : Every Right t
   pub chained : Chained t
   pub balanced : Balanced t
   pub cells : length (stateAfter t .cells) ≡ 64
-  pub jam : (sheet : SheetInForce) (i : ℕ) → i < segments road → cellIn (stateAfter t) i .n ≤ inForceAt (conditionsOf road sheet) i .jam
   pub bounds : Bounded (segments road) (length t) (stateAfter t)
   pub balance : arrivedIn t ≡ leftIn t + storedOf (segments road) (stateAfter t)
   pub sums : BoundedSums (length t) (arrivedIn t) (leftIn t) (partstepsIn t)
-
--- the jam is the road's alone
-same-jam : (road : List ℕ) (s t : SheetInForce) (i : ℕ) → i < segments road → inForceAt (conditionsOf road s) i .jam ≡ inForceAt (conditionsOf road t) i .jam
-unfolding inForce
-same-jam road s t i h = rw (in-force-at road s i h, in-force-at road t i h)
 
 length-more : (c : Conditions) (n : ℕ) (t : Trail) → length (moreSteps c n t) ≡ length t + n
 length-more c zero t = omega arith
@@ -60,7 +54,7 @@ module _ (road : List ℕ) (good : GoodRoad road) where
       let long : c .segments ≤ length (state .cells) = omega (arith, k .cells, good .segments .1) in
       let force = good-conditions road sheet good fits in
       let bounds : Bounded (c .segments) (length t) state = rw n (k .bounds) in
-      let holds = stepped-holds c state force bounds long (λ i h. k .jam sheet i (omega arith)) in
+      let holds = stepped-holds c state force bounds long in
       let a = arrived-most c force in
       let l = left-most c state force bounds in
       let s = k .sums in
@@ -72,7 +66,6 @@ module _ (road : List ℕ) (good : GoodRoad road) where
         chained = link refl (k .chained);
         balanced = still balance (k .balanced);
         cells = stepped-length c state ∙ k .cells;
-        jam = λ other i h. rw (same-jam road other sheet i h) (holds .jam-after i (omega arith));
         bounds = rw (← add-one (length t)) (subst (λ (m : ℕ). Bounded m (length t + 1) (stepped c state)) n (bounded-after c state force bounds));
         balance = subst (λ (m : ℕ). arrivedIn t + arrivedOf c ≡ leftIn t + leftOf (c .segments) (stepped c state) + storedOf m (stepped c state)) n balance;
         sums = record {
@@ -116,7 +109,6 @@ kept-fresh road = record {
   chained = start;
   balanced = nothing;
   cells = refl;
-  jam = λ sheet i h. rw (cell-fresh i) (omega arith);
   bounds = bounded-fresh (segments road);
   balance = omega (arith, zeros (λ i. cellIn freshState i .n + cellIn freshState i .q) (segments road) (λ i. ap (λ (c : Cell). c .n + c .q) (cell-fresh i)));
   sums = record { arrived-most = omega arith; left-most = omega arith; partsteps-most = omega arith };

@@ -9,7 +9,8 @@ ghost use Prim.Native.Nat.{_≤_, _<_};
 ghost use Rattle.numbers.specs.Writing.{writing};
 ghost use Rattle.parts.specs.Good.{GoodRoad};
 ghost use Rattle.sheets.specs.Read.{readPeriod};
-ghost use Rattle.conditions.specs.Conditions.{segments};
+ghost use Rattle.conditions.specs.Conditions.{segments, entryUnder};
+ghost use Rattle.running.specs.Steps.{sheetBy};
 ghost use Rattle.steps.specs.Step.{cellIn};
 ghost use Rattle.facility.specs.Calls.{freshOn, refused, layOf, withSheet, takenBy, takeOf, runOf, reported, noReport, levelAt, reportOf, totalsOf, writeRoadOf, writePeriodOf};
 ghost use Rattle.facility.specs.Verdicts.{unfinished, numberOf, runVerdict};
@@ -227,16 +228,27 @@ fn no_report(number: u8) -> SegmentReport
     }
 }
 
+// The lanes that the letter of segment i, counted from 0, reckons with: those in force.
+fn lanes_at<'a>(taken: u32, road: &'a [u32; 452], period: &'a [u32; 452], i: usize) -> u32
+    requires { ⌜ i < 64 ⌝ }
+    ensures { λ r. ⌜ r ≡ entryUnder (now (road .entry)) (sheetBy taken (now (period .entry))) i .opened ⌝ }
+{
+    if taken == 0 {
+        return parts::segment_at(road, i as u32).lanes;
+    }
+    parts::entry_at(period, i as u32).opened
+}
+
 // The report of segment i, counted from 0.
 fn report_at(f: Facility, i: usize) -> SegmentReport
     requires { ⌜ GoodRoad (f .road) × (i < segments (f .road)) ⌝ }
     ensures { λ r. ⌜ r ≡ reported (cellIn (f .state) i) (levelAt f i) ⌝ }
 {
-    let road = f.road;
     let state = f.state;
     let cell = state.cells[i];
-    let seg = parts::segment_at(&road, i as u32);
-    let level = letters::level_of(cell.n, seg.length, seg.lanes);
+    let seg = parts::segment_at(&f.road, i as u32);
+    let lanes = lanes_at(f.taken, &f.road, &f.period, i);
+    let level = letters::level_of(cell.n, seg.length, lanes);
     SegmentReport {
         refusal: 0,
         n: cell.n,

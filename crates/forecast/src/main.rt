@@ -1,6 +1,6 @@
 // Reads a study from standard input and prints its listing, or the one line of its refusal.
 
-// The buffer serves every study: the refusal of a longer one is decided within its first 26,200 bytes.
+// The buffer serves every study: the refusal of a longer one is decided within its first 32,300 bytes.
 fn main() {
     let mut buffer = io::large_buffer();
     let got = input::read_to_end(0, &mut buffer);

@@ -6,7 +6,7 @@ use Rattle.numbers.specs.Choice.{if_then_else_}
 use Rattle.letters.specs.declared.Level.{Level}
 use Rattle.letters.specs.declared.Level.the-variants.{A, B, C, D, E, F}
 
--- 22 × n is at most the limit × L × N, of the area L × N
+-- 22 × n is at most the limit × L × N, of the area L × N; N are the lanes in force (document 02, Q-1)
 unfoldable pub holdsAtMost : (limit parts area : ℕ) → Bool
 holdsAtMost k n area = leb (22 * n) (k * area)
 
@@ -20,7 +20,7 @@ levelBy n area =
     else if holdsAtMost 45 n area then E
     else F
 
--- the letter of a segment that holds n parts, of its length and lanes
+-- the letter of a segment that holds n parts, of its length and the lanes in force
 unfoldable pub levelOf : (parts length lanes : ℕ) → Level
 levelOf n l w = levelBy n (l * w)
 

@@ -1,4 +1,4 @@
--- The list statement at one list of calls on the worked study's road, refused calls among them: whatever the calls of the facility give,
+-- The list statement at three lists of calls on the worked study's road, refused calls among them: whatever the calls of the facility give,
 -- these are the answers.
 use mathlib.Core.Path.{_≡_, refl, _∙_}
 use mathlib.Core.List.{List, [], _∷_}
@@ -6,12 +6,12 @@ use Prim.Native.Nat.{ℕ}
 use Rattle.numbers.specs.Number.{readNumber, groups, last, more, placed}
 use Rattle.numbers.specs.Field.{inRange, readField}
 use Rattle.sheets.specs.Layout.{roadRange, periodRange, rangeOf, countOf}
-use Rattle.parts.specs.Parts.{roadGlobals, segmentOf, periodGlobals, rampOf}
+use Rattle.parts.specs.Parts.{roadGlobals, segmentOf, periodGlobals, entryOf}
 use Rattle.numbers.specs.Row.{onto, andThen, fields}
 use Rattle.sheets.specs.Read.{readRow, roadFrom, readRoad, readPeriod, sheetReading}
-use Rattle.letters.specs.declared.Level.the-variants.{D}
+use Rattle.letters.specs.declared.Level.the-variants.{A, D, F}
 use Rattle.conditions.specs.Values.{valuesTo}
-use Rattle.conditions.specs.Conditions.{partsAt, loweredBy, inForce, demandUnder, outletUnder, rampUnder, conditionsOf}
+use Rattle.conditions.specs.Conditions.{openCapacity, partsAt, loweredBy, inForce, demandUnder, outletUnder, entryUnder, conditionsOf}
 use Rattle.rules.specs.Rules.{largest, roundedUp, wishToLeave, off, through, mostLeaving, rampWish, entrance, supply, rampFlow, mainFlow, leaving}
 use Rattle.segment.specs.Place.{splitOf, wishOf, mostOf, onwardOf, queuedOf, rampWishOf, entranceOf, supplyOf, inflowOf, leavingOf, movedOf}
 use Rattle.steps.specs.Step.{mainWishAt, queuedAt, mainFlowAt, replaced, stepped, sumTo, arrivedOf, leftOf, storedOf}
@@ -26,17 +26,21 @@ use Rattle.facility.proofs.Lists.{theorem}
 abbrev road : List ℕ
 road = 0x01 ∷ 0xBE ∷ 0x01 ∷ 0x2D ∷ 0x07 ∷ 0xA8 ∷ 0x0A ∷ 0x02 ∷ 0x3C ∷ 0xB0 ∷ 0x22 ∷ 0x00 ∷ 0x00 ∷ 0x00 ∷ []
 
-abbrev sheet : List ℕ
-sheet = 0x01 ∷ 0xC0 ∷ 0x25 ∷ 0x90 ∷ 0x4E ∷ 0x00 ∷ 0x00 ∷ []
+-- the worked study's sheet, with so many lanes open; and the same with the exit shut
+abbrev sheet : ℕ → List ℕ
+sheet lanes = 0x01 ∷ 0xC0 ∷ 0x25 ∷ 0x90 ∷ 0x4E ∷ 0x00 ∷ 0x00 ∷ lanes ∷ []
 
--- no sheet yet; a sheet cut short; k out of range; a sheet of another road
+abbrev shut : List ℕ
+shut = 0x01 ∷ 0xC0 ∷ 0x25 ∷ 0x00 ∷ 0x00 ∷ 0x00 ∷ 0x02 ∷ []
+
+-- no sheet yet; a sheet cut short; a sheet of another road; k out of range
 abbrev calls : List Call
 calls =
     Run 1
     ∷ Take (0x01 ∷ 0xC0 ∷ [])
     ∷ Take (0x02 ∷ [])
-    ∷ Take sheet
-    ∷ Take sheet
+    ∷ Take (sheet 2)
+    ∷ Take (sheet 2)
     ∷ Run 0
     ∷ Run 3
     ∷ Report 1
@@ -45,11 +49,12 @@ calls =
     ∷ Totals
     ∷ []
 
-computed : answers (opened (roadOf road)) calls
-    ≡ Refused 10 0
+abbrev said : List Answer
+said =
+    Refused 10 0
     ∷ Refused 1 1
     ∷ Refused 14 0
-    ∷ Taken 7
+    ∷ Taken 8
     ∷ Refused 12 0
     ∷ Refused 5 0
     ∷ Ran
@@ -58,23 +63,54 @@ computed : answers (opened (roadOf road)) calls
     ∷ Refused 11 0
     ∷ Summed 14400 8492 5908 15908
     ∷ []
-unfolding readNumber groups last more placed inRange readField roadRange periodRange rangeOf countOf roadGlobals segmentOf periodGlobals rampOf onto andThen fields readRow roadFrom readRoad readPeriod sheetReading largest roundedUp partsAt wishToLeave off through mostLeaving rampWish entrance supply rampFlow mainFlow leaving valuesTo loweredBy inForce demandUnder outletUnder rampUnder conditionsOf splitOf wishOf mostOf onwardOf queuedOf rampWishOf entranceOf supplyOf inflowOf leavingOf movedOf mainWishAt queuedAt mainFlowAt replaced stepped sumTo arrivedOf leftOf storedOf holdsAtMost levelBy levelOf unfinished takeVerdict runVerdict reportVerdict arrivedIn leftIn partstepsIn
-computed = refl
 
-pub example : (xs : List Answer) (g : Facility) → Played road calls xs g
-    → xs ≡ Refused 10 0
-    ∷ Refused 1 1
-    ∷ Refused 14 0
-    ∷ Taken 7
-    ∷ Refused 12 0
-    ∷ Refused 5 0
+-- a lane closes over a filled segment, whose jam is then 11,400: nothing enters, and it empties by the capacity of one lane;
+-- three of two lanes cannot be open, nor none
+abbrev filled : List Call
+filled = Take shut ∷ Run 60 ∷ Report 1 ∷ Take (sheet 3) ∷ Take (sheet 0) ∷ Take (sheet 1) ∷ Run 2 ∷ Report 1 ∷ []
+
+abbrev saidFilled : List Answer
+saidFilled =
+    Taken 7
+    ∷ Ran
+    ∷ Reported (record { n = 22797; q = 0; main = 0; ramp = 0; off = 0; out = 0 }) F
+    ∷ Refused 4 7
+    ∷ Refused 4 7
+    ∷ Taken 8
+    ∷ Ran
+    ∷ Reported (record { n = 18397; q = 0; main = 0; ramp = 0; off = 0; out = 2200 }) F
+    ∷ []
+
+-- the letter goes by the open lanes from the moment their sheet is taken
+abbrev lettered : List Call
+lettered = Report 1 ∷ Take (sheet 2) ∷ Run 60 ∷ Report 1 ∷ Take (sheet 1) ∷ Report 1 ∷ []
+
+abbrev saidLettered : List Answer
+saidLettered =
+    Reported (record { n = 0; q = 0; main = 0; ramp = 0; off = 0; out = 0 }) A
+    ∷ Taken 8
     ∷ Ran
     ∷ Reported (record { n = 4092; q = 0; main = 4092; ramp = 0; off = 0; out = 4092 }) D
-    ∷ Refused 6 0
-    ∷ Refused 11 0
-    ∷ Summed 14400 8492 5908 15908
+    ∷ Taken 8
+    ∷ Reported (record { n = 4092; q = 0; main = 4092; ramp = 0; off = 0; out = 4092 }) F
     ∷ []
-example xs g p = theorem p .answered ∙ computed
+
+computed :
+    (answers (opened (roadOf road)) calls ≡ said)
+    × (answers (opened (roadOf road)) filled ≡ saidFilled)
+    × (answers (opened (roadOf road)) lettered ≡ saidLettered)
+unfolding readNumber groups last more placed inRange readField roadRange periodRange rangeOf countOf roadGlobals segmentOf periodGlobals entryOf onto andThen fields readRow roadFrom readRoad readPeriod sheetReading largest roundedUp partsAt wishToLeave off through mostLeaving rampWish entrance supply rampFlow mainFlow leaving valuesTo openCapacity loweredBy inForce demandUnder outletUnder entryUnder conditionsOf splitOf wishOf mostOf onwardOf queuedOf rampWishOf entranceOf supplyOf inflowOf leavingOf movedOf mainWishAt queuedAt mainFlowAt replaced stepped sumTo arrivedOf leftOf storedOf holdsAtMost levelBy levelOf unfinished takeVerdict runVerdict reportVerdict arrivedIn leftIn partstepsIn
+computed = (refl, refl, refl)
+
+-- so these are the answers of the facility's calls
+pub example : (xs : List Answer) (g : Facility) → Played road calls xs g → xs ≡ said
+example xs g p = theorem p .answered ∙ computed .0
+
+pub example-filled : (xs : List Answer) (g : Facility) → Played road filled xs g → xs ≡ saidFilled
+example-filled xs g p = theorem p .answered ∙ computed .1
+
+pub example-lettered : (xs : List Answer) (g : Facility) → Played road lettered xs g → xs ≡ saidLettered
+example-lettered xs g p = theorem p .answered ∙ computed .2
 
 -- and the road is one that laying accepts
 pub accepted : AcceptedRoad road

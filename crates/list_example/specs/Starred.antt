@@ -1,4 +1,5 @@
--- Document 01, "Merges, splits and a worked study": the starred examples as rows of one table, each held to the definitions.
+-- Document 01, "Merges, splits and a worked study": the starred examples as rows of one table, each held to the definitions. The study's
+-- period ends in 02, its open lanes, as document 02, Q-1, has it.
 use Prim.Native.Nat.{ℕ}
 use mathlib.Core.Path.{_≡_}
 use mathlib.Core.List.{List, [], _∷_}
@@ -66,7 +67,7 @@ AllAgree (r ∷ rs) = Agrees r × AllAgree rs
 abbrev pub worked : List ℕ
 worked =
     0x01 ∷ 0xBE ∷ 0x01 ∷ 0x2D ∷ 0x07 ∷ 0xA8 ∷ 0x0A ∷ 0x02 ∷ 0x3C ∷ 0xB0 ∷ 0x22 ∷ 0x00 ∷ 0x00 ∷ 0x00
-    ∷ 0x01 ∷ 0xC0 ∷ 0x25 ∷ 0x90 ∷ 0x4E ∷ 0x00 ∷ 0x00 ∷ []
+    ∷ 0x01 ∷ 0xC0 ∷ 0x25 ∷ 0x90 ∷ 0x4E ∷ 0x00 ∷ 0x00 ∷ 0x02 ∷ []
 
 -- the starred examples, in the paper's order
 abbrev pub table : List Row

@@ -47,10 +47,10 @@ pub in-within : (r : Range) (v : ℕ) → In r v → within r v ≡ true
 unfolding within
 in-within r v i = rw (le-leb _ _ (i .0), le-leb _ _ (i .1))
 
-pub allowed-at : (l : Layout) (row : List ℕ) (k : ℕ) → allowed l row ≡ true → k < countOf l → In (rangeOf l k) (getD row k 0)
+pub allowed-at : (l : Layout) (road row : List ℕ) (k : ℕ) → allowed l road row ≡ true → k < countOf l → In (rangeOf l road k) (getD row k 0)
 unfolding allowed
-allowed-at l row k e h = within-in (rangeOf l k) (getD row k 0) (all-at (λ i. within (rangeOf l i) (getD row i 0)) (countOf l) k e h)
+allowed-at l road row k e h = within-in (rangeOf l road k) (getD row k 0) (all-at (λ i. within (rangeOf l road i) (getD row i 0)) (countOf l) k e h)
 
-pub allowed-by : (l : Layout) (row : List ℕ) → ((k : ℕ) → k < countOf l → In (rangeOf l k) (getD row k 0)) → allowed l row ≡ true
+pub allowed-by : (l : Layout) (road row : List ℕ) → ((k : ℕ) → k < countOf l → In (rangeOf l road k) (getD row k 0)) → allowed l road row ≡ true
 unfolding allowed
-allowed-by l row h = all-by (λ i. within (rangeOf l i) (getD row i 0)) (countOf l) (λ k i. in-within (rangeOf l k) (getD row k 0) (h k i))
+allowed-by l road row h = all-by (λ i. within (rangeOf l road i) (getD row i 0)) (countOf l) (λ k i. in-within (rangeOf l road k) (getD row k 0) (h k i))

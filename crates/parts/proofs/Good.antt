@@ -1,6 +1,6 @@
 -- A row that is allowed is good, and a row that was read is allowed.
-use Prim.Native.Nat.{ℕ, _+_, _-_, _*_, _%_, _≤_, _<_, min}
-use mathlib.Core.Path.{_≡_, refl, subst}
+use Prim.Native.Nat.{ℕ, _+_, _*_, _≤_, _<_, min}
+use mathlib.Core.Path.{_≡_, refl}
 use mathlib.Core.Bool.{true}
 use mathlib.Core.List.{List, [], _∷_}
 use native.Mathlib.Nat.{add-zero}
@@ -9,30 +9,29 @@ use lib.ListN.{length, getD}
 use Rattle.numbers.specs.Field.{In}
 use Rattle.sheets.specs.declared.Layout.{Layout}
 use Rattle.sheets.specs.declared.Layout.the-variants.{Road, Period}
-use Rattle.sheets.specs.Layout.{noRange, segmentTable, roadTable, roadRange, periodRange, rangeOf, countOf, RowOf}
+use Rattle.sheets.specs.Layout.{noRange, segmentTable, roadTable, roadRange, entryTable, lanesOf, periodRange, rangeOf, countOf, RowOf}
 use Rattle.numbers.proofs.Rows.{each-padded}
 use Rattle.numbers.specs.Row.{ReadRow}
 use Rattle.sheets.specs.Read.{readRoad, readPeriod, padded}
-use Rattle.parts.specs.Parts.{roadGlobals, segmentOf, periodGlobals, rampOf}
+use Rattle.parts.specs.Parts.{roadGlobals, segmentOf, periodGlobals, entryOf}
 use Rattle.parts.specs.Allowed.{allowed, roadAllowed, periodAllowed}
 use Rattle.parts.proofs.Allowed.{allowed-at, allowed-by}
-use Rattle.sheets.proofs.Ranges.{count-some, road-first, road-later, period-first, period-flow, period-ramp}
+use Rattle.parts.proofs.Groups.{segment-range-at, entry-range-at}
+use Rattle.sheets.proofs.Ranges.{count-some, road-first, period-first, period-flow}
 use Rattle.sheets.proofs.Round.{road-ranged, period-ranged}
-use Rattle.parts.specs.Good.{GoodSegment, GoodRoad, GoodPeriod}
+use Rattle.parts.specs.Good.{GoodSegment, GoodRoad, GoodEntry, GoodPeriod}
 
 -- ---- these hold of every row that is allowed
 road-place : (road : List ℕ) (k : ℕ) → roadAllowed road ≡ true → k < countOf (Road (getD road 0 0)) → In (roadRange k) (getD road k 0)
 unfolding roadAllowed rangeOf
-road-place road k e h = allowed-at (Road (getD road 0 0)) road k e h
+road-place road k e h = allowed-at (Road (getD road 0 0)) [] road k e h
 
 -- the place j of segment i
 segment-place : (road : List ℕ) (i j : ℕ) → roadAllowed road ≡ true → i < min (getD road 0 0) 64 → j < 7
     → In (getD segmentTable j noRange) (getD road (4 + 7 * i + j) 0)
 unfolding countOf
 segment-place road i j e h small =
-    let r : (4 + 7 * i + j - 4) % 7 ≡ j = omega arith in
-    subst (λ (m : ℕ). In (getD segmentTable m noRange) (getD road (4 + 7 * i + j) 0)) r
-    (rw (road-later (4 + 7 * i + j) (omega arith)) at (road-place road (4 + 7 * i + j) e (omega arith)))
+    rw (← segment-range-at i j small) (road-place road (4 + 7 * i + j) e (omega arith))
 
 good-segment : (road : List ℕ) (i : ℕ) → roadAllowed road ≡ true → i < min (getD road 0 0) 64 → GoodSegment (segmentOf road i)
 unfolding segmentOf
@@ -61,29 +60,43 @@ good-road road e =
     }
 
 period-place : (road period : List ℕ) (k : ℕ) → periodAllowed road period ≡ true → k < countOf (Period (getD road 0 0))
-    → In (periodRange (getD road 0 0) k) (getD period k 0)
+    → In (periodRange (getD road 0 0) road k) (getD period k 0)
 unfolding periodAllowed rangeOf
-period-place road period k e h = allowed-at (Period (getD road 0 0)) period k e h
+period-place road period k e h = allowed-at (Period (getD road 0 0)) road period k e h
+
+-- the number j of segment i's entry
+entry-place : (road period : List ℕ) (i j : ℕ) → periodAllowed road period ≡ true → i < min (getD road 0 0) 64 → j < 3
+    → In (getD (entryTable (lanesOf road i)) j noRange) (getD period (3 + 3 * i + j) 0)
+unfolding countOf
+entry-place road period i j e h small =
+    rw (← entry-range-at (getD road 0 0) road i j small) (period-place road period (3 + 3 * i + j) e (omega arith))
+
+good-entry : (road period : List ℕ) (i : ℕ) → periodAllowed road period ≡ true → i < min (getD road 0 0) 64 → GoodEntry (segmentOf road i) (entryOf period i)
+unfolding segmentOf entryOf
+good-entry road period i e h = record {
+  demand = (rw add-zero at (entry-place road period i 0 e h (omega arith))) .1;
+  meter = entry-place road period i 1 e h (omega arith) .1;
+  opened = entry-place road period i 2 e h (omega arith);
+}
 
 pub good-period : (road period : List ℕ) → GoodRoad road → periodAllowed road period ≡ true → GoodPeriod road period
-unfolding roadGlobals periodGlobals rampOf countOf
+unfolding roadGlobals periodGlobals countOf
 good-period road period g e =
     let ns = getD road 0 0 in
-    let first = rw (period-first ns 0 refl) at (period-place road period 0 e (omega arith)) in
+    let first = rw (period-first ns road 0 refl) at (period-place road period 0 e (omega arith)) in
     let flow : (k : ℕ) → (k ≡ 0 → ⊥) → k < 3 → getD period k 0 ≤ 20000 =
-    λ k n h. (rw (period-flow ns k n h) at (period-place road period k e (omega arith))) .1 in
-    let ramp : (k : ℕ) → 3 ≤ k → k < 3 + 2 * min ns 64 → getD period k 0 ≤ 10000 = λ k l h. (rw (period-ramp ns k l) at (period-place road period k e h)) .1 in
+    λ k n h. (rw (period-flow ns road k n h) at (period-place road period k e (omega arith))) .1 in
     record {
       segments = omega (arith, first .0, first .1);
       demand = flow 1 (λ z. omega arith) (omega arith);
       outlet = flow 2 (λ z. omega arith) (omega arith);
-      ramp = λ i h. (ramp (3 + 2 * i) (omega arith) (omega (arith, g .segments)), ramp (3 + 2 * i + 1) (omega arith) (omega (arith, g .segments)));
+      entry = λ i h. good-entry road period i e (omega (arith, g .segments));
     }
 
 -- ---- and every row that a reading gives is allowed
-padded-allowed : (l : Layout) (row : List ℕ) → RowOf l row → allowed l (padded row) ≡ true
-padded-allowed l row r =
-    allowed-by l (padded row) (λ k h. each-padded (λ k v. In (rangeOf l k) v) 452 row (r .1) k (omega (arith, r .0)))
+padded-allowed : (l : Layout) (road row : List ℕ) → RowOf l road row → allowed l road (padded row) ≡ true
+padded-allowed l road row r =
+    allowed-by l road (padded row) (λ k h. each-padded (λ k v. In (rangeOf l road k) v) 452 row (r .1) k (omega (arith, r .0)))
 
 -- the first number of a row is its padded row's
 first-padded : (l : Layout) (row : List ℕ) → length row ≡ countOf l → getD (padded row) 0 0 ≡ getD row 0 0
@@ -94,8 +107,8 @@ pub read-road-allowed : (s row : List ℕ) (used : ℕ) → readRoad s ≡ ReadR
 unfolding roadAllowed
 read-road-allowed s row used e =
     let r = road-ranged s row used e in
-    rw (first-padded (Road (getD row 0 0)) row (r .0)) (padded-allowed (Road (getD row 0 0)) row r)
+    rw (first-padded (Road (getD row 0 0)) row (r .0)) (padded-allowed (Road (getD row 0 0)) [] row r)
 
 pub read-period-allowed : (road s row : List ℕ) (used : ℕ) → readPeriod road s ≡ ReadRow row used → periodAllowed road (padded row) ≡ true
 unfolding periodAllowed
-read-period-allowed road s row used e = padded-allowed (Period (getD road 0 0)) row (period-ranged road s row used e .0)
+read-period-allowed road s row used e = padded-allowed (Period (getD road 0 0)) road row (period-ranged road s row used e .0)

@@ -2,7 +2,7 @@
 -- what stands after them is not looked at.
 use Prim.Native.Nat.{ℕ, zero, suc}
 use mathlib.Core.Bool.{Bool, true, _&&_}
-use mathlib.Core.List.{List}
+use mathlib.Core.List.{List, []}
 use lib.ListN.{getD}
 use lib.Dec.{leb}
 use Rattle.numbers.specs.declared.Range.{Range}
@@ -20,12 +20,12 @@ all-below p zero = true
 all-below p (suc k) = all-below p k && p k
 
 -- each number that the layout counts is in the range of its place
-unfoldable pub allowed : Layout → List ℕ → Bool
-allowed l row = all-below (λ k. within (rangeOf l k) (getD row k 0)) (countOf l)
+unfoldable pub allowed : Layout → (road row : List ℕ) → Bool
+allowed l road row = all-below (λ k. within (rangeOf l road k) (getD row k 0)) (countOf l)
 
--- by the row's own NS; a period by the road's
+-- by the row's own NS; a period by the road's NS and lanes
 unfoldable pub roadAllowed : List ℕ → Bool
-roadAllowed row = allowed (Road (getD row 0 0)) row
+roadAllowed row = allowed (Road (getD row 0 0)) [] row
 
-unfoldable pub periodAllowed : List ℕ → List ℕ → Bool
-periodAllowed road row = allowed (Period (getD road 0 0)) row
+unfoldable pub periodAllowed : (road row : List ℕ) → Bool
+periodAllowed road row = allowed (Period (getD road 0 0)) road row

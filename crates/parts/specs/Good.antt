@@ -4,7 +4,8 @@ use mathlib.Core.Path.{_≡_}
 use mathlib.Core.List.{List}
 use lib.ListN.{length}
 use Rattle.parts.specs.declared.Segment.{Segment}
-use Rattle.parts.specs.Parts.{roadGlobals, segmentOf, periodGlobals, rampOf}
+use Rattle.parts.specs.declared.Entry.{Entry}
+use Rattle.parts.specs.Parts.{roadGlobals, segmentOf, periodGlobals, entryOf}
 
 pub record GoodSegment (s : Segment) : Type 0 where
   pub length : (300 ≤ s .length) × (s .length ≤ 26400)
@@ -22,8 +23,14 @@ pub record GoodRoad (road : List ℕ) : Type 0 where
   pub cut : roadGlobals road .cut ≤ 50
   pub segment : (i : ℕ) → i < roadGlobals road .segments → GoodSegment (segmentOf road i)
 
+-- the entry of a period for the segment
+pub record GoodEntry (s : Segment) (e : Entry) : Type 0 where
+  pub demand : e .demand ≤ 10000
+  pub meter : e .meter ≤ 10000
+  pub opened : (1 ≤ e .opened) × (e .opened ≤ s .lanes)
+
 pub record GoodPeriod (road period : List ℕ) : Type 0 where
   pub segments : periodGlobals period .segments ≡ roadGlobals road .segments
   pub demand : periodGlobals period .demand ≤ 20000
   pub outlet : periodGlobals period .outlet ≤ 20000
-  pub ramp : (i : ℕ) → i < roadGlobals road .segments → (rampOf period i .demand ≤ 10000) × (rampOf period i .meter ≤ 10000)
+  pub entry : (i : ℕ) → i < roadGlobals road .segments → GoodEntry (segmentOf road i) (entryOf period i)

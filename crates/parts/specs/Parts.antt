@@ -1,11 +1,12 @@
--- Document 01, "Road sheet" and "Period sheet": the numbers of a road and of a period by name.
+-- Document 01, "Road sheet" and "Period sheet", and document 02, Q-1, open lanes: the numbers of a road and of a period by name.
 use Prim.Native.Nat.{ℕ, _+_, _*_}
 use mathlib.Core.List.{List}
 use lib.ListN.{getD}
+use Rattle.sheets.specs.Layout.{lanesOf}
 use Rattle.parts.specs.declared.RoadGlobals.{RoadGlobals}
 use Rattle.parts.specs.declared.Segment.{Segment}
 use Rattle.parts.specs.declared.PeriodGlobals.{PeriodGlobals}
-use Rattle.parts.specs.declared.Ramp.{Ramp}
+use Rattle.parts.specs.declared.Entry.{Entry}
 
 -- NS, KJ, KC, A
 unfoldable pub roadGlobals : List ℕ → RoadGlobals
@@ -20,7 +21,7 @@ roadGlobals road = record {
 unfoldable pub segmentOf : List ℕ → ℕ → Segment
 segmentOf road i = record {
   length = getD road (4 + 7 * i) 0;
-  lanes = getD road (4 + 7 * i + 1) 0;
+  lanes = lanesOf road i;
   speed = getD road (4 + 7 * i + 2) 0;
   capacity = getD road (4 + 7 * i + 3) 0;
   onramp = getD road (4 + 7 * i + 4) 0;
@@ -32,6 +33,10 @@ segmentOf road i = record {
 unfoldable pub periodGlobals : List ℕ → PeriodGlobals
 periodGlobals period = record { segments = getD period 0 0; demand = getD period 1 0; outlet = getD period 2 0 }
 
--- the ramp demand and the meter rate of segment i, counted from 0
-unfoldable pub rampOf : List ℕ → ℕ → Ramp
-rampOf period i = record { demand = getD period (3 + 2 * i) 0; meter = getD period (3 + 2 * i + 1) 0 }
+-- the entry of segment i, counted from 0: ramp demand, meter rate, open lanes
+unfoldable pub entryOf : List ℕ → ℕ → Entry
+entryOf period i = record {
+  demand = getD period (3 + 3 * i) 0;
+  meter = getD period (3 + 3 * i + 1) 0;
+  opened = getD period (3 + 3 * i + 2) 0;
+}

@@ -1,12 +1,13 @@
 // A road and a period by their parts: whether their numbers are in their ranges, and each number by its name.
 use numbers::Range;
 use sheets::places;
+use sheets::places::number_at;
 ghost use mathlib.Core.Path.{_≡_};
 ghost use Prim.Native.Nat.{_+_, _*_, _<_};
 ghost use lib.ListN.{getD};
-ghost use Rattle.sheets.specs.Layout.{_to_, segmentTable, roadTable, periodRange, noRange};
+ghost use Rattle.sheets.specs.Layout.{segmentTable, roadTable, entryTable, lanesOf, periodRange, noRange};
 ghost use Rattle.parts.specs.Allowed.{within, all-below, roadAllowed, periodAllowed};
-ghost use Rattle.parts.specs.Parts.{roadGlobals, segmentOf, periodGlobals, rampOf};
+ghost use Rattle.parts.specs.Parts.{roadGlobals, segmentOf, periodGlobals, entryOf};
 
 // Whether the number at the place k of the row is in the range.
 fn is_within(range: Range, row: &[u32; 452], k: usize) -> bool
@@ -43,21 +44,23 @@ fn is_segment(row: &[u32; 452], i: usize) -> bool
 }
 
 // Whether the first three numbers of a period of a road of ns segments are in their ranges.
-fn is_opening(ns: u32, row: &[u32; 452]) -> bool
-    ensures { λ r. ⌜ r ≡ all-below (λ k. within (periodRange ns k) (getD (now (row .entry)) k 0)) 3 ⌝ }
+fn is_opening(ns: u32, road: &[u32; 452], row: &[u32; 452]) -> bool
+    ensures { λ r. ⌜ r ≡ all-below (λ k. within (periodRange ns (now (road .entry)) k) (getD (now (row .entry)) k 0)) 3 ⌝ }
 {
-    is_within(places::period_range(ns, 0), row, 0)
-        & is_within(places::period_range(ns, 1), row, 1)
-        & is_within(places::period_range(ns, 2), row, 2)
+    is_within(places::period_range(ns, road, 0), row, 0)
+        & is_within(places::period_range(ns, road, 1), row, 1)
+        & is_within(places::period_range(ns, road, 2), row, 2)
 }
 
-// Whether the two numbers of segment i in a period are in their range.
-fn is_ramp(row: &[u32; 452], i: usize) -> bool
+// Whether the three numbers of segment i in a period are in their ranges.
+fn is_entry(road: &[u32; 452], row: &[u32; 452], i: usize) -> bool
     requires { ⌜ i < 64 ⌝ }
-    ensures { λ r. ⌜ r ≡ all-below (λ j. within (0 to 10000) (getD (now (row .entry)) (3 + 2 * i + j) 0)) 2 ⌝ }
+    ensures { λ r. ⌜ r ≡ all-below (λ j. within (getD (entryTable (lanesOf (now (road .entry)) i)) j noRange) (getD (now (row .entry)) (3 + 3 * i + j) 0)) 3 ⌝ }
 {
-    let k = 3 + 2 * i;
-    is_within(places::ramp_range(), row, k) & is_within(places::ramp_range(), row, k + 1)
+    let k = 3 + 3 * i;
+    is_within(places::entry_range(road, i, 0), row, k)
+        & is_within(places::entry_range(road, i, 1), row, k + 1)
+        & is_within(places::entry_range(road, i, 2), row, k + 2)
 }
 
 // Whether the numbers that a road counts are in their ranges, as those of every reading are.
@@ -79,10 +82,10 @@ pub fn is_period(road: &[u32; 452], row: &[u32; 452]) -> bool
     ensures { λ r. ⌜ r ≡ periodAllowed (now (road .entry)) (now (row .entry)) ⌝ }
 {
     let ns = places::segments(road[0]);
-    let mut ok = is_opening(road[0], row);
+    let mut ok = is_opening(road[0], road, row);
     let mut i: usize = 0;
     while i < ns {
-        ok = ok & is_ramp(row, i);
+        ok = ok & is_entry(road, row, i);
         i += 1;
     }
     ok
@@ -114,10 +117,11 @@ pub struct PeriodGlobals {
     pub outlet: u32,
 }
 
-// A ramp in a period: its demand and its meter rate.
-pub struct Ramp {
+// A segment's entry in a period: the ramp's demand and meter rate, and how many lanes are open.
+pub struct Entry {
     pub demand: u32,
     pub meter: u32,
+    pub opened: u32,
 }
 
 pub fn globals_of_road(row: &[u32; 452]) -> RoadGlobals
@@ -129,16 +133,6 @@ pub fn globals_of_road(row: &[u32; 452]) -> RoadGlobals
         critical: row[2],
         cut: row[3],
     }
-}
-
-// The number at a place of a row, 0 past its end.
-fn number_at(row: &[u32], k: usize) -> u32
-    ensures { λ r. ⌜ r ≡ getD (now (row .entry)) k 0 ⌝ }
-{
-    if k < row.len() {
-        return row[k];
-    }
-    0
 }
 
 // The segment i of a road, counted from 0.
@@ -167,13 +161,14 @@ pub fn globals_of_period(row: &[u32; 452]) -> PeriodGlobals
     }
 }
 
-// The ramp of segment i in a period, counted from 0.
-pub fn ramp_at(row: &[u32; 452], i: u32) -> Ramp
-    ensures { λ r. ⌜ r ≡ rampOf (now (row .entry)) i ⌝ }
+// The entry of segment i in a period, counted from 0.
+pub fn entry_at(row: &[u32; 452], i: u32) -> Entry
+    ensures { λ r. ⌜ r ≡ entryOf (now (row .entry)) i ⌝ }
 {
-    let k = 3 + 2 * (i as usize);
-    Ramp {
+    let k = 3 + 3 * (i as usize);
+    Entry {
         demand: number_at(row, k),
         meter: number_at(row, k + 1),
+        opened: number_at(row, k + 2),
     }
 }

@@ -1,5 +1,5 @@
--- Document 01, "One step": each rule as a formula, in the paper's order; J, Q and the lowered C stand in the conditions. Every difference is
--- zero where it would be negative.
+-- Document 01, "One step": each rule as a formula, in the paper's order; C, the lowered C, J, Q and the lanes are those in force, which stand
+-- in the conditions. Every difference is zero where it would be negative, J − n too (document 02, Q-1).
 use Prim.Native.Nat.{ℕ, zero, suc, _+_, _-_, _*_, _/_, min, max}
 use mathlib.Core.Bool.{Bool}
 use lib.Dec.{leb}
@@ -44,7 +44,7 @@ entrance c l t = if t then l else c
 unfoldable pub supply : (entrance capacity jam critical parts : ℕ) → ℕ
 supply e c j q n = min e (min (j - n) (c * (j - n) / (j - q)))
 
--- r, ramp flow: the smaller of W and the larger of (P − M, zero if negative) and P / (2 × N)
+-- r, ramp flow: the smaller of W and the larger of (P − M, zero if negative) and P / (2 × N), N the lanes in force
 unfoldable pub rampFlow : (supply lanes mainWish rampWish : ℕ) → ℕ
 rampFlow p n m w = min w (max (p - m) (p / (2 * n)))
 

@@ -1,5 +1,5 @@
 -- The laws of one step at one segment, from what is in force there and its cell.
-use Prim.Native.Nat.{ℕ, _+_, _-_, _*_, _/_, _≤_, min, max}
+use Prim.Native.Nat.{ℕ, _+_, _-_, _*_, _/_, _≤_, _<_, min, max}
 use mathlib.Core.Bool.{Bool}
 use mathlib.Core.Path.{_≡_}
 use native.Mathlib.Omega.{arith}
@@ -50,6 +50,10 @@ module _ (here : InForce) (cell : Cell) where
     pub supply-room : supplyOf here cell queued ≤ here .jam - cell .n
     unfolding supplyOf
     supply-room = supply-most-room _ _ _ _ _
+
+    -- above its jam nothing
+    pub none-let-in : here .jam < cell .n → inflowOf here cell m queued .main + inflowOf here cell m queued .ramp ≡ 0
+    none-let-in above = omega (arith, inflow-exact, supply-room)
 
     -- at most the capacity
     pub taken-in : GoodPlace here → inflowOf here cell m queued .main + inflowOf here cell m queued .ramp ≤ here .capacity

@@ -14,18 +14,43 @@ road : List ℕ
 road = 0x01 ∷ 0xBE ∷ 0x01 ∷ 0x2D ∷ 0x07 ∷ 0xA8 ∷ 0x0A ∷ 0x02 ∷ 0x3C ∷ 0xB0 ∷ 0x22 ∷ 0x00 ∷ 0x00 ∷ 0x00 ∷ []
 
 period : List ℕ
-period = 0x01 ∷ 0xC0 ∷ 0x25 ∷ 0x90 ∷ 0x4E ∷ 0x00 ∷ 0x00 ∷ []
+period = 0x01 ∷ 0xC0 ∷ 0x25 ∷ 0x90 ∷ 0x4E ∷ 0x00 ∷ 0x00 ∷ 0x02 ∷ []
 
-road-reads : readRoad road ≡ ReadRow (1 ∷ 190 ∷ 45 ∷ 7 ∷ 1320 ∷ 2 ∷ 60 ∷ 4400 ∷ 0 ∷ 0 ∷ 0 ∷ []) 14
-unfolding road readRoad roadFrom readRow fields andThen onto readField inRange rangeOf countOf roadRange readNumber groups last more placed
+-- the road's numbers
+numbers : List ℕ
+numbers = 1 ∷ 190 ∷ 45 ∷ 7 ∷ 1320 ∷ 2 ∷ 60 ∷ 4400 ∷ 0 ∷ 0 ∷ 0 ∷ []
+
+road-reads : readRoad road ≡ ReadRow numbers 14
+unfolding road numbers readRoad roadFrom readRow fields andThen onto readField inRange rangeOf countOf roadRange readNumber groups last more placed
 road-reads = refl
 
-period-reads : readPeriod (1 ∷ []) period ≡ ReadRow (1 ∷ 4800 ∷ 10000 ∷ 0 ∷ 0 ∷ []) 7
-unfolding period readPeriod readRow fields andThen onto readField inRange rangeOf countOf periodRange readNumber groups last more placed
+period-reads : readPeriod numbers period ≡ ReadRow (1 ∷ 4800 ∷ 10000 ∷ 0 ∷ 0 ∷ 2 ∷ []) 8
+unfolding numbers period readPeriod readRow fields andThen onto readField inRange rangeOf countOf periodRange readNumber groups last more placed
 period-reads = refl
 
-road-writes : rowBytes (1 ∷ 190 ∷ 45 ∷ 7 ∷ 1320 ∷ 2 ∷ 60 ∷ 4400 ∷ 0 ∷ 0 ∷ 0 ∷ []) ≡ road
-unfolding road rowBytes numberBytes bytesFrom
+-- at least one lane is open, at most all of the segment's own, and a period without open lanes ends too early
+none-open : readPeriod numbers (0x01 ∷ 0xC0 ∷ 0x25 ∷ 0x90 ∷ 0x4E ∷ 0x00 ∷ 0x00 ∷ 0x00 ∷ []) ≡ RefusedAt 4 7
+unfolding numbers readPeriod readRow fields andThen onto readField inRange rangeOf countOf periodRange readNumber groups last more placed
+none-open = refl
+
+three-of-two-open : readPeriod numbers (0x01 ∷ 0xC0 ∷ 0x25 ∷ 0x90 ∷ 0x4E ∷ 0x00 ∷ 0x00 ∷ 0x03 ∷ []) ≡ RefusedAt 4 7
+unfolding numbers readPeriod readRow fields andThen onto readField inRange rangeOf countOf periodRange readNumber groups last more placed
+three-of-two-open = refl
+
+first-layout : readPeriod numbers (0x01 ∷ 0xC0 ∷ 0x25 ∷ 0x90 ∷ 0x4E ∷ 0x00 ∷ 0x00 ∷ []) ≡ RefusedAt 1 7
+unfolding numbers readPeriod readRow fields andThen onto readField inRange rangeOf countOf periodRange readNumber groups last more placed
+first-layout = refl
+
+-- a segment of two lanes and one of four: both may be open whole, each by its own N
+own-lanes :
+    readPeriod (2 ∷ 190 ∷ 45 ∷ 7 ∷ 1320 ∷ 2 ∷ 60 ∷ 4400 ∷ 0 ∷ 0 ∷ 0 ∷ 1320 ∷ 4 ∷ 60 ∷ 8800 ∷ 0 ∷ 0 ∷ 0 ∷ [])
+    (0x02 ∷ 0x00 ∷ 0x00 ∷ 0x00 ∷ 0x00 ∷ 0x02 ∷ 0x00 ∷ 0x00 ∷ 0x04 ∷ []) ≡
+    ReadRow (2 ∷ 0 ∷ 0 ∷ 0 ∷ 0 ∷ 2 ∷ 0 ∷ 0 ∷ 4 ∷ []) 9
+unfolding readPeriod readRow fields andThen onto readField inRange rangeOf countOf periodRange readNumber groups last more placed
+own-lanes = refl
+
+road-writes : rowBytes numbers ≡ road
+unfolding road numbers rowBytes numberBytes bytesFrom
 road-writes = refl
 
 no-lanes : readRoad (0x01 ∷ 0xBE ∷ 0x01 ∷ 0x2D ∷ 0x07 ∷ 0xA8 ∷ 0x0A ∷ 0x00 ∷ 0x3C ∷ []) ≡ RefusedAt 4 7

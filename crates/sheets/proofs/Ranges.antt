@@ -1,50 +1,62 @@
--- One rule for every range of the layouts, computed over the tables.
+-- The ranges of the layouts: every refusal has a number, and the numbers in them have at most 32 bits.
 use mathlib.Core.Path.{_≡_, refl}
 use mathlib.Core.Bool.{Bool, true, false}
-use Prim.Native.Nat.{ℕ, zero, suc, _-_, _%_, _^_, _≤_, _<_}
+use Prim.Native.Nat.{ℕ, zero, suc, _-_, _/_, _%_, _^_, _≤_, _<_, min}
 use mathlib.Core.List.{List, [], _∷_}
 use native.Mathlib.Omega.{arith}
 use lib.ListN.{length, getD}
 use lib.Dec.{ltb, eqb}
-use borrow.Author.Tests.{ltb-true, eqb-true, le-ltb, lt-ltb, eq-eqb}
+use borrow.Author.Tests.{ltb-true, ltb-false, eqb-true, le-ltb, lt-ltb, eq-eqb}
 use Rattle.numbers.specs.Choice.{if_then_else_}
 use Rattle.numbers.specs.declared.Range.{Range}
 use Rattle.sheets.specs.declared.Layout.{Layout}
 use Rattle.sheets.specs.declared.Layout.the-variants.{Road, Period}
-use Rattle.sheets.specs.Layout.{_to_, noRange, segmentTable, roadTable, roadRange, sameSegments, periodRange, rangeOf, countOf}
+use Rattle.sheets.specs.Layout.{_to_, noRange, segmentTable, roadTable, roadRange, sameSegments, entryTable, lanesOf, periodRange, rangeOf, countOf}
 
--- its values are numbers of a sheet, and its refusal has a number
-pub record Usable (r : Range) : Type 0 where
-  pub fits : r .high < 2 ^ 32
-  pub named : 1 ≤ r .refusal
+-- its refusal has a number; its numbers have at most 32 bits
+abbrev HasNumber : Range → Type 0
+HasNumber r = 1 ≤ r .refusal
 
-abbrev AllUsable : List Range → Type 0
-AllUsable [] = Unit {0}
-AllUsable (r ∷ rs) = Usable r × AllUsable rs
+abbrev Fits : Range → Type 0
+Fits r = r .high < 2 ^ 32
 
-entry : (rs : List Range) (k : ℕ) → AllUsable rs → k < length rs → Usable (getD rs k noRange)
-entry [] k e h = absurd (omega arith)
-entry (r ∷ rs) zero e h = e .0
-entry (r ∷ rs) (suc k) e h = entry rs k (e .1) (omega arith)
+abbrev AllOf : (Range → Type 0) → List Range → Type 0
+AllOf P [] = Unit {0}
+AllOf P (r ∷ rs) = P r × AllOf P rs
 
-either : (t : Bool) (a b : Range) → (t ≡ true → Usable a) → Usable b → Usable (if t then a else b)
-either true a b p q = p refl
-either false a b p q = q
+module _ (P : Range → Type 0) where
+  entry : (rs : List Range) (k : ℕ) → AllOf P rs → k < length rs → P (getD rs k noRange)
+  entry [] k e h = absurd (omega arith)
+  entry (r ∷ rs) zero e h = e .0
+  entry (r ∷ rs) (suc k) e h = entry rs k (e .1) (omega arith)
 
-in-segment : AllUsable segmentTable
-in-segment = (omega arith, (omega arith, (omega arith, (omega arith, (omega arith, (omega arith, (omega arith, tt)))))))
+  either : (t : Bool) (a b : Range) → (t ≡ true → P a) → P b → P (if t then a else b)
+  either true a b p q = p refl
+  either false a b p q = q
 
-in-road : AllUsable roadTable
-in-road = (omega arith, (omega arith, (omega arith, (omega arith, tt))))
+  in-road : AllOf P roadTable → AllOf P segmentTable → (k : ℕ) → P (roadRange k)
+  unfolding roadRange
+  in-road a b k =
+      either (ltb k 4) (getD roadTable k noRange) (getD segmentTable ((k - 4) % 7) noRange)
+      (λ t. entry roadTable k a (ltb-true _ _ t)) (entry segmentTable ((k - 4) % 7) b (omega arith))
 
-pub usable : (l : Layout) (k : ℕ) → Usable (rangeOf l k)
-unfolding rangeOf roadRange periodRange
-usable (Road ns) k =
-    either (ltb k 4) (getD roadTable k noRange) (getD segmentTable ((k - 4) % 7) noRange)
-    (λ t. entry roadTable k in-road (ltb-true _ _ t)) (entry segmentTable ((k - 4) % 7) in-segment (omega arith))
-usable (Period ns) k =
-    either (eqb k 0) (sameSegments ns) (if ltb k 3 then 0 to 20000 else 0 to 10000) (λ t. omega arith)
-    (either (ltb k 3) (0 to 20000) (0 to 10000) (λ t. omega arith) (omega arith))
+-- a road's numbers have at most 32 bits
+pub road-fits : (k : ℕ) → roadRange k .high < 2 ^ 32
+road-fits =
+    in-road Fits (omega arith, (omega arith, (omega arith, (omega arith, tt))))
+    (omega arith, (omega arith, (omega arith, (omega arith, (omega arith, (omega arith, (omega arith, tt)))))))
+
+-- every refusal has a number
+pub named : (l : Layout) (road : List ℕ) (k : ℕ) → 1 ≤ rangeOf l road k .refusal
+unfolding rangeOf periodRange
+named (Road ns) road k =
+    in-road HasNumber (omega arith, (omega arith, (omega arith, (omega arith, tt))))
+    (omega arith, (omega arith, (omega arith, (omega arith, (omega arith, (omega arith, (omega arith, tt))))))) k
+named (Period ns) road k =
+    let table = entryTable (lanesOf road ((k - 3) / 3)) in
+    either HasNumber (eqb k 0) (sameSegments ns) (if ltb k 3 then 0 to 20000 else getD table ((k - 3) % 3) noRange) (λ t. omega arith)
+    (either HasNumber (ltb k 3) (0 to 20000) (getD table ((k - 3) % 3) noRange) (λ t. omega arith)
+    (entry HasNumber table ((k - 3) % 3) (omega arith, (omega arith, (omega arith, tt))) (omega arith)))
 
 -- a layout has some numbers, and no more than a row
 pub count-some : (l : Layout) → 0 < countOf l
@@ -70,14 +82,44 @@ differs : (k : ℕ) (t : Bool) → eqb k 0 ≡ t → (k ≡ 0 → ⊥) → t ≡
 differs k true e h = absurd (h (eqb-true _ _ e))
 differs k false e h = refl
 
-pub period-first : (ns k : ℕ) → k ≡ 0 → periodRange ns k ≡ sameSegments ns
+pub period-first : (ns : ℕ) (road : List ℕ) (k : ℕ) → k ≡ 0 → periodRange ns road k ≡ sameSegments ns
 unfolding periodRange
-period-first ns k h = rw (eq-eqb _ _ h)
+period-first ns road k h = rw (eq-eqb _ _ h)
 
-pub period-flow : (ns k : ℕ) → (k ≡ 0 → ⊥) → k < 3 → periodRange ns k ≡ 0 to 20000
+pub period-flow : (ns : ℕ) (road : List ℕ) (k : ℕ) → (k ≡ 0 → ⊥) → k < 3 → periodRange ns road k ≡ 0 to 20000
 unfolding periodRange
-period-flow ns k n h = rw (differs k (eqb k 0) refl n, lt-ltb _ _ h)
+period-flow ns road k n h = rw (differs k (eqb k 0) refl n, lt-ltb _ _ h)
 
-pub period-ramp : (ns k : ℕ) → 3 ≤ k → periodRange ns k ≡ 0 to 10000
+pub period-later : (ns : ℕ) (road : List ℕ) (k : ℕ) → 3 ≤ k
+    → periodRange ns road k ≡ getD (entryTable (lanesOf road ((k - 3) / 3))) ((k - 3) % 3) noRange
 unfolding periodRange
-period-ramp ns k h = rw (differs k (eqb k 0) refl (λ z. omega arith), le-ltb _ _ h)
+period-later ns road k h = rw (differs k (eqb k 0) refl (λ z. omega arith), le-ltb _ _ h)
+
+-- the numbers of an entry: ramp demand and meter rate, and open lanes
+pub entry-flow : (n j : ℕ) → j < 2 → getD (entryTable n) j noRange ≡ 0 to 10000
+entry-flow n zero h = refl
+entry-flow n (suc zero) h = refl
+entry-flow n (suc (suc j)) h = absurd (omega arith)
+
+pub entry-open : (n j : ℕ) → 2 ≤ j → j < 3 → getD (entryTable n) j noRange ≡ 1 to n
+entry-open n zero l h = absurd (omega arith)
+entry-open n (suc zero) l h = absurd (omega arith)
+entry-open n (suc (suc zero)) l h = refl
+entry-open n (suc (suc (suc j))) l h = absurd (omega arith)
+
+-- a period's have, where its road's lanes have
+pub period-fits : (ns : ℕ) (road : List ℕ) → ((i : ℕ) → i < min ns 64 → lanesOf road i < 2 ^ 32)
+    → (k : ℕ) → k < countOf (Period ns) → periodRange ns road k .high < 2 ^ 32
+unfolding periodRange countOf
+period-fits ns road lanes k h =
+    let table = entryTable (lanesOf road ((k - 3) / 3)) in
+    either Fits (eqb k 0) (sameSegments ns) (if ltb k 3 then 0 to 20000 else getD table ((k - 3) % 3) noRange) (λ t. omega arith)
+    (by-flow (ltb k 3) refl)
+  where
+    by-flow : (t : Bool) → ltb k 3 ≡ t
+        → (if t then 0 to 20000 else getD (entryTable (lanesOf road ((k - 3) / 3))) ((k - 3) % 3) noRange) .high < 2 ^ 32
+    by-flow true e = omega arith
+    by-flow false e =
+        let later = ltb-false k 3 e in
+        entry Fits (entryTable (lanesOf road ((k - 3) / 3))) ((k - 3) % 3)
+        (omega arith, (omega arith, (lanes ((k - 3) / 3) (omega arith), tt))) (omega arith)

@@ -1,7 +1,7 @@
 -- A sheet written and read again is the same sheet, with the written count used, wherever it stands in a buffer; one read and written
 -- again is the bytes that its reading used. Once for every layout; a road's layout is known by its first number.
 use mathlib.Core.Path.{_≡_, refl, sym, ap, _∙_}
-use Prim.Native.Nat.{ℕ, zero, suc, _+_, _-_, _≤_, _<_}
+use Prim.Native.Nat.{ℕ, zero, suc, _+_, _-_, _^_, _≤_, _<_, min}
 use mathlib.Core.List.{List, [], _∷_, _++_, append-assoc}
 use native.Mathlib.Nat.{zero-add, add-zero, add-assoc}
 use native.Mathlib.Omega.{arith}
@@ -15,45 +15,67 @@ use Rattle.numbers.proofs.Writings.{written}
 use Rattle.numbers.proofs.Round.{written-reads, read-writes}
 use Rattle.sheets.specs.declared.Layout.{Layout}
 use Rattle.sheets.specs.declared.Layout.the-variants.{Road, Period}
-use Rattle.sheets.specs.Layout.{roadRange, rangeOf, countOf, RowOf}
+use Rattle.sheets.specs.Layout.{roadRange, lanesOf, rangeOf, countOf, RowOf}
 use Rattle.numbers.specs.Row.{Each, ReadRow, onto, andThen, fields}
 use Rattle.numbers.proofs.Rows.{then-back, each-head, each-tail, fields-each}
 use Rattle.sheets.specs.Read.{fieldOf, readRow, roadFrom, readRoad, readPeriod, padded, sheetReading, readAs}
 use Rattle.sheets.specs.Write.{rowBytes, sheetRow, roadRow, periodRow}
-use Rattle.sheets.proofs.Ranges.{usable, count-some, period-first}
+use Rattle.sheets.proofs.Ranges.{road-fits, period-fits, count-some, period-first}
 use Rattle.sheets.proofs.Turns.{road-read}
 
 -- the number is in the range of its place
-abbrev Ranged : Layout → ℕ → ℕ → Type 0
-Ranged l k v = In (rangeOf l k) v
+abbrev Ranged : Layout → List ℕ → ℕ → ℕ → Type 0
+Ranged l road k v = In (rangeOf l road k) v
+
+-- and has at most 32 bits
+abbrev Writable : Layout → List ℕ → ℕ → ℕ → Type 0
+Writable l road k v = Ranged l road k v × (v < 2 ^ 32)
+
+-- all numbers of the row have
+abbrev Fitting : List ℕ → Type 0
+Fitting row = Each (λ k v. v < 2 ^ 32) 0 row
 
 -- ---- what was written is read back
-value-reads : (l : Layout) (k v : ℕ) (before rest : List ℕ) → In (rangeOf l k) v
-    → readField (rangeOf l k) (before ++ (numberBytes v ++ rest)) (length before) ≡ Read v (length before + length (numberBytes v))
-value-reads l k v before rest h = field-value _ _ _ _ _ (written-reads v before rest (omega (arith, usable l k .fits, h .1))) h
+value-reads : (l : Layout) (road : List ℕ) (k v : ℕ) (before rest : List ℕ) → Writable l road k v
+    → readField (rangeOf l road k) (before ++ (numberBytes v ++ rest)) (length before) ≡ Read v (length before + length (numberBytes v))
+value-reads l road k v before rest h = field-value _ _ _ _ _ (written-reads v before rest (h .1)) (h .0)
 
-reads-fields : (l : Layout) (row : List ℕ) (k : ℕ) (before rest : List ℕ) → Each (Ranged l) k row
-    → fields (fieldOf l (before ++ (rowBytes row ++ rest))) (length row) k (length before) ≡ ReadRow row (length before + length (rowBytes row))
+reads-fields : (l : Layout) (road row : List ℕ) (k : ℕ) (before rest : List ℕ) → Each (Writable l road) k row
+    → fields (fieldOf l road (before ++ (rowBytes row ++ rest))) (length row) k (length before) ≡ ReadRow row (length before + length (rowBytes row))
 unfolding fields andThen onto rowBytes
-reads-fields l [] k before rest h = rw add-zero
-reads-fields l (v ∷ row) k before rest h =
-    let f = value-reads l k v before (rowBytes row ++ rest) (each-head (Ranged l) k v row h) in
-    let more = reads-fields l row (k + 1) (before ++ numberBytes v) rest (each-tail (Ranged l) k v row h) in
+reads-fields l road [] k before rest h = rw add-zero
+reads-fields l road (v ∷ row) k before rest h =
+    let f = value-reads l road k v before (rowBytes row ++ rest) (each-head (Writable l road) k v row h) in
+    let more = reads-fields l road row (k + 1) (before ++ numberBytes v) rest (each-tail (Writable l road) k v row h) in
     let ih = simp (append-assoc, length-append, add-assoc) at more in
     simp (append-assoc, length-append, add-assoc) (rw (f, ih))
 
-pub written-row : (l : Layout) (row rest : List ℕ) → RowOf l row → readRow l (rowBytes row ++ rest) ≡ ReadRow row (length (rowBytes row))
+written-row : (l : Layout) (road row rest : List ℕ) → RowOf l road row → Fitting row
+    → readRow l road (rowBytes row ++ rest) ≡ ReadRow row (length (rowBytes row))
 unfolding readRow
-written-row l row rest h = rw (← (h .0)) (rw zero-add at (reads-fields l row 0 [] rest (h .1)))
+written-row l road row rest h fit = rw (← (h .0)) (rw zero-add at (reads-fields l road row 0 [] rest (λ j i. (h .1 j i, fit j i))))
 
-written-road : (row rest : List ℕ) → RowOf (Road (getD row 0 0)) row → readRoad (rowBytes row ++ rest) ≡ ReadRow row (length (rowBytes row))
+-- by its ranges a road's numbers have at most 32 bits, and a period's where its road's lanes have
+road-fitting : (ns : ℕ) (row : List ℕ) → RowOf (Road ns) [] row → Fitting row
+unfolding rangeOf
+road-fitting ns row h j i = omega (arith, road-fits (0 + j), h .1 j i .1)
+
+-- N of each segment has at most 32 bits
+abbrev pub LanesFit : List ℕ → Type 0
+LanesFit road = (i : ℕ) → i < min (getD road 0 0) 64 → lanesOf road i < 2 ^ 32
+
+period-fitting : (road row : List ℕ) → LanesFit road → RowOf (Period (getD road 0 0)) road row → Fitting row
+unfolding rangeOf
+period-fitting road row lanes h j i = omega (arith, period-fits (getD road 0 0) road lanes (0 + j) (omega (arith, h .0)), h .1 j i .1)
+
+written-road : (row rest : List ℕ) → RowOf (Road (getD row 0 0)) [] row → readRoad (rowBytes row ++ rest) ≡ ReadRow row (length (rowBytes row))
 unfolding rowBytes rangeOf countOf
 written-road [] rest h = absurd (omega (arith, h .0))
 written-road (ns ∷ row) rest h =
     let f : readField (roadRange 0) (numberBytes ns ++ (rowBytes row ++ rest)) 0 ≡ Read ns (0 + length (numberBytes ns)) =
-    value-reads (Road ns) 0 ns [] (rowBytes row ++ rest) (each-head (Ranged (Road ns)) 0 ns row (h .1)) in
+    value-reads (Road ns) [] 0 ns [] (rowBytes row ++ rest) (h .1 0 (omega arith), road-fitting ns (ns ∷ row) h 0 (omega arith)) in
     let g : readField (roadRange 0) ((numberBytes ns ++ rowBytes row) ++ rest) 0 ≡ Read ns (0 + length (numberBytes ns)) = rw append-assoc f in
-    road-read _ _ _ g ∙ written-row (Road ns) (ns ∷ row) rest h
+    road-read _ _ _ g ∙ written-row (Road ns) [] (ns ∷ row) rest h (road-fitting ns (ns ∷ row) h)
 
 -- ---- what was read is the bytes of its row
 -- the bytes from `at` to next are the row's
@@ -65,83 +87,90 @@ back-end : (s : List ℕ) (at : ℕ) → Back s at [] at
 unfolding rowBytes
 back-end s at = record { bytes = refl; place = omega arith }
 
-back-more : (l : Layout) (k : ℕ) (s : List ℕ) (at v n : ℕ) (row : List ℕ) (next : ℕ) → Bytes s
-    → readField (rangeOf l k) s at ≡ Read v n → Back s n row next → Back s at (v ∷ row) next
+back-more : (l : Layout) (road : List ℕ) (k : ℕ) (s : List ℕ) (at v n : ℕ) (row : List ℕ) (next : ℕ) → Bytes s
+    → readField (rangeOf l road k) s at ≡ Read v n → Back s n row next → Back s at (v ∷ row) next
 unfolding rowBytes
-back-more l k s at v n row next by e b =
-    let w = read-writes s at v n by (field-back (rangeOf l k) s at v n e .0) in
+back-more l road k s at v n row next by e b =
+    let w = read-writes s at v n by (field-back (rangeOf l road k) s at v n e .0) in
     let m : n - at ≡ length (numberBytes v) = omega (arith, w .2) in
     let t : take (length (numberBytes v)) (drop at s) ≡ numberBytes v = rw m at (w .0) in
     record { bytes = rw (length-append, take-add, t, drop-drop, ← (w .2), b .bytes); place = rw length-append (omega (arith, w .2, b .place)) }
 
-fields-back : (l : Layout) (left k : ℕ) (s : List ℕ) (at : ℕ) (row : List ℕ) (next : ℕ) → Bytes s
-    → fields (fieldOf l s) left k at ≡ ReadRow row next → Back s at row next
+fields-back : (l : Layout) (road : List ℕ) (left k : ℕ) (s : List ℕ) (at : ℕ) (row : List ℕ) (next : ℕ) → Bytes s
+    → fields (fieldOf l road s) left k at ≡ ReadRow row next → Back s at row next
 unfolding fields
-fields-back l zero k s at row next by e =
+fields-back l road zero k s at row next by e =
     let r : [] ≡ row = cc in
     let n : at ≡ next = cc in
     rw (← r, ← n) (back-end s at)
-fields-back l (suc left) k s at row next by e =
-    let g = then-back at (fieldOf l s k at) (fields (fieldOf l s) left (k + 1)) row next e in
-    let b = fields-back l left (k + 1) s (g .1) (g .2) next by (g .4) in
-    rw (g .5) (back-more l k s at (g .0) (g .1) (g .2) next by (g .3) b)
+fields-back l road (suc left) k s at row next by e =
+    let g = then-back at (fieldOf l road s k at) (fields (fieldOf l road s) left (k + 1)) row next e in
+    let b = fields-back l road left (k + 1) s (g .1) (g .2) next by (g .4) in
+    rw (g .5) (back-more l road k s at (g .0) (g .1) (g .2) next by (g .3) b)
 
 -- a row that was read is one of its layout, and the bytes that its reading used are its bytes
-pub row-ranged : (l : Layout) (s row : List ℕ) (used : ℕ) → readRow l s ≡ ReadRow row used → RowOf l row
+pub row-ranged : (l : Layout) (road s row : List ℕ) (used : ℕ) → readRow l road s ≡ ReadRow row used → RowOf l road row
 unfolding readRow
-row-ranged l s row used e =
-    fields-each (fieldOf l s) (Ranged l) (λ k at v next r. field-back (rangeOf l k) s at v next r .1) (countOf l) 0 0 row used e
+row-ranged l road s row used e =
+    fields-each (fieldOf l road s) (Ranged l road) (λ k at v next r. field-back (rangeOf l road k) s at v next r .1) (countOf l) 0 0 row used e
 
-pub row-back : (l : Layout) (s row : List ℕ) (used : ℕ) → Bytes s → readRow l s ≡ ReadRow row used
+-- what was read has at most 32 bits
+row-fitting : (l : Layout) (road s row : List ℕ) (used : ℕ) → Bytes s → readRow l road s ≡ ReadRow row used → Fitting row
+unfolding readRow
+row-fitting l road s row used by e =
+    fields-each (fieldOf l road s) (λ k v. v < 2 ^ 32)
+    (λ k at v next r. read-writes s at v next by (field-back (rangeOf l road k) s at v next r .0) .1) (countOf l) 0 0 row used e .1
+
+pub row-back : (l : Layout) (road s row : List ℕ) (used : ℕ) → Bytes s → readRow l road s ≡ ReadRow row used
     → (take used s ≡ rowBytes row) × (used ≡ length (rowBytes row))
 unfolding readRow
-row-back l s row used by e =
-    let b = fields-back l (countOf l) 0 s 0 row used by e in
+row-back l road s row used by e =
+    let b = fields-back l road (countOf l) 0 s 0 row used by e in
     let u : used ≡ length (rowBytes row) = omega (arith, b .place) in
     (rw u (b .bytes), u)
 
 -- ---- the first number is NS
-first-number : (l : Layout) (s row : List ℕ) (used ns n : ℕ) → readField (rangeOf l 0) s 0 ≡ Read ns n → readRow l s ≡ ReadRow row used → getD row 0 0 ≡ ns
+first-number : (l : Layout) (road s row : List ℕ) (used ns n : ℕ) → readField (rangeOf l road 0) s 0 ≡ Read ns n → readRow l road s ≡ ReadRow row used → getD row 0 0 ≡ ns
 unfolding readRow fields
-first-number l s row used ns n f e = first-of (countOf l) (count-some l) e
+first-number l road s row used ns n f e = first-of (countOf l) (count-some l) e
   where
-    first-of : (c : ℕ) → 0 < c → fields (fieldOf l s) c 0 0 ≡ ReadRow row used → getD row 0 0 ≡ ns
+    first-of : (c : ℕ) → 0 < c → fields (fieldOf l road s) c 0 0 ≡ ReadRow row used → getD row 0 0 ≡ ns
     first-of zero h g = absurd (omega arith)
     first-of (suc c) h g =
-        let b = then-back 0 (fieldOf l s 0 0) (fields (fieldOf l s) c (0 + 1)) row used g in
+        let b = then-back 0 (fieldOf l road s 0 0) (fields (fieldOf l road s) c (0 + 1)) row used g in
         let v : b .0 ≡ ns = cc (b .3) in
         ap (λ (r : List ℕ). getD r 0 0) (b .5) ∙ v
 
 from-back : (s : List ℕ) (x : Reading) (row : List ℕ) (used : ℕ) → roadFrom s x ≡ ReadRow row used
-    → (ns : ℕ) × (n : ℕ) × (x ≡ Read ns n) × (readRow (Road ns) s ≡ ReadRow row used)
+    → (ns : ℕ) × (n : ℕ) × (x ≡ Read ns n) × (readRow (Road ns) [] s ≡ ReadRow row used)
 unfolding roadFrom
 from-back s (Read ns n) row used e = (ns, n, refl, e)
 from-back s (Refused x) row used e = absurd (let z : _≡_ {A = ℕ} 0 1 = cc in omega arith)
 
 -- a road that was read, by its own first number
-road-back : (s row : List ℕ) (used : ℕ) → readRoad s ≡ ReadRow row used → readRow (Road (getD row 0 0)) s ≡ ReadRow row used
+road-back : (s row : List ℕ) (used : ℕ) → readRoad s ≡ ReadRow row used → readRow (Road (getD row 0 0)) [] s ≡ ReadRow row used
 unfolding readRoad rangeOf
 road-back s row used e =
     let r = from-back s (readField (roadRange 0) s 0) row used e in
-    let ns : getD row 0 0 ≡ r .0 = first-number (Road (r .0)) s row used (r .0) (r .1) (r .2) (r .3) in
+    let ns : getD row 0 0 ≡ r .0 = first-number (Road (r .0)) [] s row used (r .0) (r .1) (r .2) (r .3) in
     rw ns (r .3)
 
-pub road-ranged : (s row : List ℕ) (used : ℕ) → readRoad s ≡ ReadRow row used → RowOf (Road (getD row 0 0)) row
-road-ranged s row used e = row-ranged (Road (getD row 0 0)) s row used (road-back s row used e)
+pub road-ranged : (s row : List ℕ) (used : ℕ) → readRoad s ≡ ReadRow row used → RowOf (Road (getD row 0 0)) [] row
+road-ranged s row used e = row-ranged (Road (getD row 0 0)) [] s row used (road-back s row used e)
 
-period-number : (ns : ℕ) (row : List ℕ) → RowOf (Period ns) row → getD row 0 0 ≡ ns
+period-number : (ns : ℕ) (road row : List ℕ) → RowOf (Period ns) road row → getD row 0 0 ≡ ns
 unfolding rangeOf
-period-number ns [] a = absurd (omega (arith, a .0, count-some (Period ns)))
-period-number ns (v ∷ row) a =
-    let h = rw (period-first ns 0 refl) at (each-head (Ranged (Period ns)) 0 v row (a .1)) in
+period-number ns road [] a = absurd (omega (arith, a .0, count-some (Period ns)))
+period-number ns road (v ∷ row) a =
+    let h = rw (period-first ns road 0 refl) at (each-head (Ranged (Period ns) road) 0 v row (a .1)) in
     omega (arith, h .0, h .1)
 
 pub period-ranged : (road s row : List ℕ) (used : ℕ) → readPeriod road s ≡ ReadRow row used
-    → RowOf (Period (getD road 0 0)) row × (getD row 0 0 ≡ getD road 0 0)
+    → RowOf (Period (getD road 0 0)) road row × (getD row 0 0 ≡ getD road 0 0)
 unfolding readPeriod
 period-ranged road s row used e =
-    let r = row-ranged (Period (getD road 0 0)) s row used e in
-    (r, period-number (getD road 0 0) row r)
+    let r = row-ranged (Period (getD road 0 0)) road s row used e in
+    (r, period-number (getD road 0 0) road row r)
 
 -- ---- the same of the code's rows, which have zeros after the sheet's numbers
 pub padded-row : (layout : ℕ → Layout) (row : List ℕ) → length row ≡ countOf (layout (getD row 0 0)) → sheetRow layout (padded row) ≡ row
@@ -157,21 +186,26 @@ written-there buffer row at h =
     (drop-at (take at buffer) (rowBytes row ++ drop (at + length (rowBytes row)) buffer) at (length-take-le at buffer (omega arith)))
 
 module _ (buffer row : List ℕ) (at : ℕ) (room : at + length (rowBytes row) ≤ length buffer) where
-  pub road-written-read : RowOf (Road (getD row 0 0)) row
+  pub road-written-read : RowOf (Road (getD row 0 0)) [] row
       → sheetReading (readRoad (drop at (writeInto buffer at (rowBytes row)))) ≡ readAs row (length (rowBytes row))
   unfolding sheetReading
   road-written-read h = rw (written-there buffer row at room, written-road row (drop (at + length (rowBytes row)) buffer) h)
 
-  pub period-written-read : (road : List ℕ) → RowOf (Period (getD road 0 0)) row
+  fitting-written-read : (road : List ℕ) → RowOf (Period (getD road 0 0)) road row → Fitting row
       → sheetReading (readPeriod road (drop at (writeInto buffer at (rowBytes row)))) ≡ readAs row (length (rowBytes row))
   unfolding sheetReading readPeriod
-  period-written-read road h = rw (written-there buffer row at room, written-row (Period (getD road 0 0)) row (drop (at + length (rowBytes row)) buffer) h)
+  fitting-written-read road h fit =
+      rw (written-there buffer row at room, written-row (Period (getD road 0 0)) road row (drop (at + length (rowBytes row)) buffer) h fit)
+
+  pub period-written-read : (road : List ℕ) → LanesFit road → RowOf (Period (getD road 0 0)) road row
+      → sheetReading (readPeriod road (drop at (writeInto buffer at (rowBytes row)))) ≡ readAs row (length (rowBytes row))
+  period-written-read road lanes h = fitting-written-read road h (period-fitting road row lanes h)
 
 module _ (s row : List ℕ) (used : ℕ) (by : Bytes s) where
   pub road-read-written : readRoad s ≡ ReadRow row used → rowBytes (roadRow (sheetReading (readRoad s) .row)) ≡ take used s
   unfolding sheetReading
   road-read-written e =
-      let back = row-back (Road (getD row 0 0)) s row used by (road-back s row used e) in
+      let back = row-back (Road (getD row 0 0)) [] s row used by (road-back s row used e) in
       rw (e, padded-row Road row (road-ranged s row used e .0)) (sym (back .0))
 
   pub period-read-written : (road : List ℕ) → readPeriod road s ≡ ReadRow row used → rowBytes (periodRow (sheetReading (readPeriod road s) .row)) ≡ take used s
@@ -179,14 +213,14 @@ module _ (s row : List ℕ) (used : ℕ) (by : Bytes s) where
   period-read-written road e =
       let p = period-ranged road s row used e in
       let size : length row ≡ countOf (Period (getD row 0 0)) = rw (p .1) (p .0 .0) in
-      rw (e, padded-row Period row size) (sym (row-back (Period (getD road 0 0)) s row used by e .0))
+      rw (e, padded-row Period row size) (sym (row-back (Period (getD road 0 0)) road s row used by e .0))
 
   -- and what a reading used, written anywhere, reads back as the same sheet
   module _ (buffer : List ℕ) (at : ℕ) (room : at + length (take used s) ≤ length buffer) where
     pub road-again : readRoad s ≡ ReadRow row used → sheetReading (readRoad (drop at (writeInto buffer at (take used s)))) ≡ sheetReading (readRoad s)
     unfolding sheetReading
     road-again e =
-        let b = row-back (Road (getD row 0 0)) s row used by (road-back s row used e) in
+        let b = row-back (Road (getD row 0 0)) [] s row used by (road-back s row used e) in
         let w = road-written-read buffer row at (rw (b .0) at room) (road-ranged s row used e) in
         rw (e, b .0) (w ∙ ap (readAs row) (sym (b .1)))
 
@@ -194,6 +228,7 @@ module _ (s row : List ℕ) (used : ℕ) (by : Bytes s) where
         → sheetReading (readPeriod road (drop at (writeInto buffer at (take used s)))) ≡ sheetReading (readPeriod road s)
     unfolding sheetReading readPeriod
     period-again road e =
-        let b = row-back (Period (getD road 0 0)) s row used by e in
-        let w = period-written-read buffer row at (rw (b .0) at room) road (period-ranged road s row used e .0) in
+        let b = row-back (Period (getD road 0 0)) road s row used by e in
+        let fit = row-fitting (Period (getD road 0 0)) road s row used by e in
+        let w = fitting-written-read buffer row at (rw (b .0) at room) road (period-ranged road s row used e .0) fit in
         rw (e, b .0) (w ∙ ap (readAs row) (sym (b .1)))

@@ -23,25 +23,30 @@ use Rattle.sheets.specs.Read.{fieldOf, readRow, roadFrom, readRoad, shee
 use Rattle.sheets.specs.Write.{rowBytes}
 
 -- ---- reading: the turns of a row of the layout, by the one law of every reader
-module _ (l : Layout) (s : List ℕ) (n : ℕ) (row : List ℕ) (k at : ℕ) (all : n ≡ countOf l) (t : Turn (fieldOf l s) 0 n 452 row k at) where
+module _ (l : Layout) (road s : List ℕ) (n : ℕ) (row : List ℕ) (k at : ℕ) (all : n ≡ countOf l) (t : Turn (fieldOf l road s) 0 n 452 row k at) where
   most : n ≤ 452
   most = omega (arith, all, count-most l)
 
-  pub turn-again : (v next : ℕ) → k < n → readField (rangeOf l k) s at ≡ Read v next → Turn (fieldOf l s) 0 n 452 (set row k v) (k + 1) next
-  turn-again v next h e = turn-more (fieldOf l s) 0 n 452 row k at most t v next h e
+  pub turn-again : (v next : ℕ) → k < n → readField (rangeOf l road k) s at ≡ Read v next → Turn (fieldOf l road s) 0 n 452 (set row k v) (k + 1) next
+  turn-again v next h e = turn-more (fieldOf l road s) 0 n 452 row k at most t v next h e
 
-  pub row-refused : (e : ℕ) → k < n → readField (rangeOf l k) s at ≡ Refused e → readRow l s ≡ RefusedAt e at
+  pub row-refused : (e : ℕ) → k < n → readField (rangeOf l road k) s at ≡ Refused e → readRow l road s ≡ RefusedAt e at
   unfolding readRow
-  row-refused e h r = rw (← all) (turn-refused (fieldOf l s) 0 n 452 row k at most t e h r)
+  row-refused e h r = rw (← all) (turn-refused (fieldOf l road s) 0 n 452 row k at most t e h r)
 
-  pub row-read : n ≤ k → sheetReading (readRow l s) ≡ record { refusal = 0; offset = 0; used = at; row = row }
+  pub row-read : n ≤ k → sheetReading (readRow l road s) ≡ record { refusal = 0; offset = 0; used = at; row = row }
   unfolding readRow sheetReading
   row-read h =
-      let r = turn-row (fieldOf l s) 0 n 452 row k at most t h in
+      let r = turn-row (fieldOf l road s) 0 n 452 row k at most t h in
       rw (← all, r .0, r .1)
 
+-- a road's ranges come from no road
+pub road-alone : (ns : ℕ) (road s : List ℕ) → readRow (Road ns) road s ≡ readRow (Road ns) [] s
+unfolding readRow rangeOf
+road-alone ns road s = refl
+
 -- a road, by its first number
-pub road-read : (s : List ℕ) (ns n : ℕ) → readField (roadRange 0) s 0 ≡ Read ns n → readRoad s ≡ readRow (Road ns) s
+pub road-read : (s : List ℕ) (ns n : ℕ) → readField (roadRange 0) s 0 ≡ Read ns n → readRoad s ≡ readRow (Road ns) [] s
 unfolding readRoad roadFrom
 road-read s ns n e = rw e
 

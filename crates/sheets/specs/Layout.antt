@@ -1,5 +1,5 @@
--- Document 01, "Road sheet" and "Period sheet": how many numbers each has, and the range of each place.
-use Prim.Native.Nat.{ℕ, _+_, _-_, _*_, _%_, min, max}
+-- Document 01, "Road sheet" and "Period sheet", and document 02, Q-1, open lanes: how many numbers each has, and the range of each place.
+use Prim.Native.Nat.{ℕ, _+_, _-_, _*_, _/_, _%_, min, max}
 use mathlib.Core.List.{List, [], _∷_}
 use lib.ListN.{getD, length}
 use lib.Dec.{ltb, eqb}
@@ -36,20 +36,31 @@ roadRange k = if ltb k 4 then getD roadTable k noRange else getD segmentTable ((
 abbrev pub sameSegments : ℕ → Range
 sameSegments ns = record { low = max 1 ns; high = min ns 64; refusal = 14 }
 
--- NS; mainline demand and exit capacity X; then for each segment ramp demand and meter rate
-unfoldable pub periodRange : ℕ → ℕ → Range
-periodRange ns k = if eqb k 0 then sameSegments ns else if ltb k 3 then 0 to 20000 else 0 to 10000
+-- a segment's entry in a period: ramp demand, meter rate, and open lanes, 1..N
+abbrev pub entryTable : (lanes : ℕ) → List Range
+entryTable n = 0 to 10000 ∷ 0 to 10000 ∷ 1 to n ∷ []
 
--- the range of the place k
-unfoldable pub rangeOf : Layout → ℕ → Range
-rangeOf (Road ns) k = roadRange k
-rangeOf (Period ns) k = periodRange ns k
+-- N of segment i of a road, counted from 0
+abbrev pub lanesOf : (road : List ℕ) → ℕ → ℕ
+lanesOf road i = getD road (4 + 7 * i + 1) 0
+
+-- NS; mainline demand and exit capacity X; then the entry of each segment, by N of that segment of the road
+unfoldable pub periodRange : ℕ → (road : List ℕ) → ℕ → Range
+periodRange ns road k =
+    if eqb k 0 then sameSegments ns
+    else if ltb k 3 then 0 to 20000
+    else getD (entryTable (lanesOf road ((k - 3) / 3))) ((k - 3) % 3) noRange
+
+-- the range of the place k: a period's by NS and by its road, a road's own by no road
+unfoldable pub rangeOf : Layout → (road : List ℕ) → ℕ → Range
+rangeOf (Road ns) road k = roadRange k
+rangeOf (Period ns) road k = periodRange ns road k
 
 -- how many numbers; no sheet has more than 64 segments
 unfoldable pub countOf : Layout → ℕ
 countOf (Road ns) = 4 + 7 * min ns 64
-countOf (Period ns) = 3 + 2 * min ns 64
+countOf (Period ns) = 3 + 3 * min ns 64
 
 -- a row of the layout: so many numbers, each in the range of its place
-abbrev pub RowOf : Layout → List ℕ → Type 0
-RowOf l row = (length row ≡ countOf l) × Each (λ k v. In (rangeOf l k) v) 0 row
+abbrev pub RowOf : Layout → (road row : List ℕ) → Type 0
+RowOf l road row = (length row ≡ countOf l) × Each (λ k v. In (rangeOf l road k) v) 0 row

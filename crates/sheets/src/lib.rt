@@ -6,6 +6,7 @@ use numbers::Number;
 use numbers::Range;
 use numbers::Written;
 ghost use mathlib.Core.Path.{_≡_};
+ghost use Prim.Native.Nat.{_<_};
 ghost use lib.ListN.{take};
 ghost use Rattle.numbers.specs.Writing.{writing, writeAnswer, writeInto};
 ghost use Rattle.sheets.specs.Layout.{rangeOf, countOf};
@@ -33,30 +34,31 @@ pub fn count(layout: Layout) -> usize
 {
     match layout {
         Layout::Road(ns) => 4 + 7 * places::segments(ns),
-        Layout::Period(ns) => 3 + 2 * places::segments(ns),
+        Layout::Period(ns) => 3 + 3 * places::segments(ns),
     }
 }
 
-// The range of the place k of a layout.
-pub fn range_at(layout: Layout, k: usize) -> Range
-    ensures { λ r. ⌜ r ≡ rangeOf layout k ⌝ }
+// The range of the place k of a layout: a period's by its road too, a road's own by no road.
+pub fn range_at(layout: Layout, road: &[u32; 452], k: usize) -> Range
+    requires { ⌜ k < 452 ⌝ }
+    ensures { λ r. ⌜ r ≡ rangeOf layout (now (road .entry)) k ⌝ }
 {
     match layout {
         Layout::Road(_) => places::road_range(k),
-        Layout::Period(ns) => places::period_range(ns, k),
+        Layout::Period(ns) => places::period_range(ns, road, k),
     }
 }
 
 // A sheet of a layout, at the start of the bytes.
-fn read_row(bytes: &[u8], layout: Layout) -> SheetReading
-    ensures { λ r. ⌜ r ≡ sheetReading (readRow layout (now (bytes .entry))) ⌝ }
+fn read_row(bytes: &[u8], layout: Layout, road: &[u32; 452]) -> SheetReading
+    ensures { λ r. ⌜ r ≡ sheetReading (readRow layout (now (road .entry)) (now (bytes .entry))) ⌝ }
 {
     let n = count(layout);
     let mut row = [0u32; 452];
     let mut k: usize = 0;
     let mut at: usize = 0;
     while k < n {
-        let got = numbers::read_field(bytes, at, range_at(layout, k));
+        let got = numbers::read_field(bytes, at, range_at(layout, road, k));
         match got {
             Number::Value { value, next } => {
                 row[k] = value;
@@ -87,17 +89,16 @@ pub fn read_road(bytes: &[u8]) -> SheetReading
     ensures { λ r. ⌜ r ≡ sheetReading (readRoad (now (bytes .entry))) ⌝ }
 {
     let got = numbers::read_field(bytes, 0, places::road_start(0));
+    // no road for the ranges, and no numbers beside a refusal
+    let none = [0u32; 452];
     match got {
-        Number::Value { value, next: _ } => read_row(bytes, Layout::Road(value)),
-        Number::Refused(refusal) => {
-            let none = [0u32; 452];
-            SheetReading {
-                refusal,
-                offset: 0,
-                used: 0,
-                row: none,
-            }
-        }
+        Number::Value { value, next: _ } => read_row(bytes, Layout::Road(value), &none),
+        Number::Refused(refusal) => SheetReading {
+            refusal,
+            offset: 0,
+            used: 0,
+            row: none,
+        },
     }
 }
 
@@ -105,7 +106,7 @@ pub fn read_road(bytes: &[u8]) -> SheetReading
 pub fn read_period(bytes: &[u8], road: &[u32; 452]) -> SheetReading
     ensures { λ r. ⌜ r ≡ sheetReading (readPeriod (now (road .entry)) (now (bytes .entry))) ⌝ }
 {
-    read_row(bytes, Layout::Period(road[0]))
+    read_row(bytes, Layout::Period(road[0]), road)
 }
 
 // Writes the numbers of a row that its layout counts.

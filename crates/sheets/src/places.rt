@@ -3,7 +3,7 @@ use numbers::Range;
 ghost use mathlib.Core.Path.{_≡_};
 ghost use Prim.Native.Nat.{_<_, min, max};
 ghost use lib.ListN.{getD};
-ghost use Rattle.sheets.specs.Layout.{_to_, segmentTable, roadTable, roadRange, periodRange, noRange};
+ghost use Rattle.sheets.specs.Layout.{segmentTable, roadTable, roadRange, entryTable, lanesOf, periodRange, noRange};
 
 // L, N, V, C, R, s, F of a segment.
 const SEGMENT: [Range; 7] = [
@@ -109,19 +109,38 @@ fn least(a: u32, b: u32) -> u32
     if a < b { a } else { b }
 }
 
-// The range of a ramp's demand and of its meter rate.
-pub fn ramp_range() -> Range
-    ensures { λ r. ⌜ r ≡ 0 to 10000 ⌝ }
+// The number at a place of a row, 0 past its end.
+pub fn number_at(row: &[u32], k: usize) -> u32
+    ensures { λ r. ⌜ r ≡ getD (now (row .entry)) k 0 ⌝ }
 {
+    if k < row.len() {
+        return row[k];
+    }
+    0
+}
+
+// The range of the number j of segment i in a period: ramp demand, meter rate, open lanes.
+pub fn entry_range(road: &[u32; 452], i: usize, j: usize) -> Range
+    requires { ⌜ (i < 452) × (j < 3) ⌝ }
+    ensures { λ r. ⌜ r ≡ getD (entryTable (lanesOf (now (road .entry)) i)) j noRange ⌝ }
+{
+    if j < 2 {
+        return Range {
+            low: 0,
+            high: 10000,
+            refusal: 4,
+        };
+    }
     Range {
-        low: 0,
-        high: 10000,
+        low: 1,
+        high: number_at(road, 4 + 7 * i + 1),
         refusal: 4,
     }
 }
 
-pub fn period_range(ns: u32, k: usize) -> Range
-    ensures { λ r. ⌜ r ≡ periodRange ns k ⌝ }
+pub fn period_range(ns: u32, road: &[u32; 452], k: usize) -> Range
+    requires { ⌜ k < 452 ⌝ }
+    ensures { λ r. ⌜ r ≡ periodRange ns (now (road .entry)) k ⌝ }
 {
     if k == 0 {
         return Range {
@@ -137,5 +156,5 @@ pub fn period_range(ns: u32, k: usize) -> Range
             refusal: 4,
         };
     }
-    ramp_range()
+    entry_range(road, (k - 3) / 3, (k - 3) % 3)
 }

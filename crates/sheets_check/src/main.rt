@@ -1,8 +1,9 @@
 // Reads and writes numbers and sheets, good and damaged, as the records on standard input say, one a line, and prints each with its answer:
-//     read-number HEX PLACE    write-number VALUE ROOM PLACE    read-road HEX    read-period HEX NS
-//     write-road HEX ROOM PLACE    write-period HEX ROOM PLACE
+//     read-number HEX PLACE    write-number VALUE ROOM PLACE    read-road HEX    read-period HEX ROAD
+//     write-road HEX ROOM PLACE    write-period HEX ROAD ROOM PLACE
 // Numbers that are not given are 0, and those that a call has no use for are not looked at.
-// HEX is bytes in hexadecimal, `-` for none; a sheet is written after it is read. A buffer has ROOM bytes aa, up to 1,024, and is printed whole.
+// HEX is bytes in hexadecimal, `-` for none; ROAD is those of a road sheet, and one that is refused is a road of zeros. A sheet is written
+// after it is read. A buffer has ROOM bytes aa, up to 1,024, and is printed whole.
 use numbers::Number;
 use numbers::Written;
 use records::Numbers;
@@ -21,6 +22,12 @@ enum Call {
     WriteRoad,
     WritePeriod,
     Other,
+}
+
+// The numbers of the road that a word gives; a word that is not bytes in hexadecimal is not fine.
+struct Road {
+    fine: bool,
+    row: [u32; 452],
 }
 
 // A call that writes.
@@ -109,15 +116,7 @@ fn read_road(bytes: &[u8]) {
     );
 }
 
-// A row whose first number is the road's NS.
-fn road_of(ns: u32) -> [u32; 452] {
-    let mut row = [0u32; 452];
-    row[0] = ns;
-    row
-}
-
-fn read_period(bytes: &[u8], ns: u32) {
-    let sheet = sheets::read_period(bytes, &road_of(ns));
+fn say_period(sheet: SheetReading) {
     let row = sheet.row;
     say_sheet(
         sheet,
@@ -130,17 +129,12 @@ fn write_number(buffer: &mut [u8], at: usize, value: u32) {
     say_written(done, buffer);
 }
 
-fn write_road(buffer: &mut [u8], at: usize, bytes: &[u8]) {
-    let sheet = sheets::read_road(bytes);
-    let row = sheet.row;
+fn write_road(buffer: &mut [u8], at: usize, row: [u32; 452]) {
     let done = sheets::write_road(buffer, at, row);
     say_written(done, buffer);
 }
 
-fn write_period(buffer: &mut [u8], at: usize, bytes: &[u8]) {
-    let ns = if bytes.len() == 0 { 0 } else { bytes[0] };
-    let sheet = sheets::read_period(bytes, &road_of(ns as u32));
-    let row = sheet.row;
+fn write_period(buffer: &mut [u8], at: usize, row: [u32; 452]) {
     let done = sheets::write_period(buffer, at, row);
     say_written(done, buffer);
 }
@@ -149,9 +143,10 @@ fn say_not_a_call() {
     say(b"not a call");
 }
 
-// Writes a sheet that is read first.
-fn play_sheet(is_road: bool, bytes: &[u8], more: Numbers) {
+// Writes a sheet that was read.
+fn play_sheet(is_road: bool, sheet: SheetReading, more: Numbers) {
     let mut buffer = [0xAAu8; 1024];
+    let row = sheet.row;
     let room = more.first as usize;
     let at = more.second as usize;
     if 1024 < room {
@@ -159,9 +154,9 @@ fn play_sheet(is_road: bool, bytes: &[u8], more: Numbers) {
         return;
     }
     if is_road {
-        write_road(&mut buffer[0..room], at, bytes);
+        write_road(&mut buffer[0..room], at, row);
     } else {
-        write_period(&mut buffer[0..room], at, bytes);
+        write_period(&mut buffer[0..room], at, row);
     }
 }
 
@@ -179,6 +174,43 @@ fn play_number(word: &[u8], more: Numbers) {
     }
 }
 
+fn road_of(word: &[u8]) -> Road {
+    let mut bytes = io::large_buffer();
+    let given = records::bytes_of(word, &mut bytes);
+    let n = given.count;
+    let sheet = sheets::read_road(&bytes[0..n]);
+    let row = sheet.row;
+    Road {
+        fine: given.fine,
+        row,
+    }
+}
+
+fn play_period(call: Call, word: &[u8], road: Road, more: Numbers) {
+    let mut bytes = io::large_buffer();
+    let given = records::bytes_of(word, &mut bytes);
+    let n = given.count;
+    if !(given.fine & road.fine & more.fine) {
+        say_not_a_call();
+        return;
+    }
+    let row = road.row;
+    let sheet = sheets::read_period(&bytes[0..n], &row);
+    match call {
+        Call::ReadPeriod => say_period(sheet),
+        _ => play_sheet(false, sheet, more),
+    }
+}
+
+// Plays a call on a period; behind its bytes stands the road.
+fn play_on_road(call: Call, word: &[u8], rest: &[u8]) {
+    let given = text::next_word(rest, 0);
+    let start = given.start;
+    let end = given.end;
+    let more = records::up_to_two(&rest[end..], 0, 0);
+    play_period(call, word, road_of(&rest[start..end]), more);
+}
+
 fn play_bytes(call: Call, word: &[u8], more: Numbers) {
     let mut bytes = io::large_buffer();
     let given = records::bytes_of(word, &mut bytes);
@@ -190,13 +222,17 @@ fn play_bytes(call: Call, word: &[u8], more: Numbers) {
     match call {
         Call::ReadNumber => say_read(numbers::read(&bytes[0..n], more.first as usize)),
         Call::ReadRoad => read_road(&bytes[0..n]),
-        Call::ReadPeriod => read_period(&bytes[0..n], more.first),
-        Call::WriteRoad => play_sheet(true, &bytes[0..n], more),
-        _ => play_sheet(false, &bytes[0..n], more),
+        _ => play_sheet(true, sheets::read_road(&bytes[0..n]), more),
     }
 }
 
-fn play_call(call: Call, word: &[u8], more: Numbers) {
+// Plays a call without a road.
+fn play_call(call: Call, word: &[u8], rest: &[u8]) {
+    let more = records::up_to_two(rest, 0, 0);
+    if !more.fine {
+        say_not_a_call();
+        return;
+    }
     match call {
         Call::WriteNumber => play_number(word, more),
         Call::Other => say_not_a_call(),
@@ -212,12 +248,13 @@ fn play(record: &[u8]) {
     let given = text::next_word(record, to);
     let start = given.start;
     let end = given.end;
-    let more = records::up_to_two(&record[end..], 0, 0);
-    if !more.fine {
-        say_not_a_call();
-        return;
+    let call = call_of(&record[from..to]);
+    match call {
+        Call::ReadPeriod | Call::WritePeriod => {
+            play_on_road(call, &record[start..end], &record[end..])
+        }
+        _ => play_call(call, &record[start..end], &record[end..]),
     }
-    play_call(call_of(&record[from..to]), &record[start..end], more);
 }
 
 // Plays a record of a line, and tells whether there was one.

@@ -1,4 +1,4 @@
--- Every step keeps the claims, from a state that holds at most the jam.
+-- Every step keeps the claims.
 use Prim.Native.Nat.{ℕ, zero, suc, _≤_, _<_}
 use mathlib.Core.Path.{_≡_}
 use mathlib.Core.Logic.{⊎-elim}
@@ -13,7 +13,7 @@ use Rattle.steps.specs.Step.{cellIn, mainFlowAt, nextCell, stepped}
 use Rattle.conditions.specs.Good.{GoodConditions}
 use Rattle.steps.specs.Bounded.{Bounded}
 use Rattle.segment.proofs.Laws.{inflow-exact, let-out, let-out-parts, taken-in}
-use Rattle.steps.proofs.Laws.{split-at, exit-exact, gone-at, held-at, main-flow-at, origin-flow, ramp-queue-at, stepped-cell}
+use Rattle.steps.proofs.Laws.{split-at, exit-exact, gone-at, held-at, none-let-in-at, main-flow-at, origin-flow, ramp-queue-at, stepped-cell}
 use Rattle.steps.proofs.Balance.{balance}
 use Rattle.steps.specs.Claims.{enteredAt, Holds}
 
@@ -31,16 +31,13 @@ module _ (c : Conditions) (state : State) {t : ℕ} (good : GoodConditions c) (b
       (λ l. rw (lt-ltb i (c .segments) l, read i l, main-flow-at c state i l))
       (eq-or-lt-of-le {n = i} {m = c .segments} h)
 
-  -- every step from a state that holds at most the jam
-  pub stepped-holds :
-      ((i : ℕ) → i < c .segments → cellIn state i .n ≤ inForceAt c i .jam) →
-      Holds c state (stepped c state)
+  pub stepped-holds : Holds c state (stepped c state)
   unfolding movedOf stepped
-  stepped-holds jam = record {
+  stepped-holds = record {
     takes-in = λ i h. rw (read i h) (taken-in (inForceAt c i) (cellIn state i) _ _ (good .place i h));
     lets-out = λ i h. rw (read i h) (let-out (inForceAt c i) (cellIn state i) _);
-    jam-before = jam;
-    jam-after = λ i h. rw (read i h) (omega (arith, held-at c state i, jam i h));
+    above-jam = λ i h above. rw (read i h) (none-let-in-at c state i above, omega (arith, held-at c state i));
+    within-jam = λ i h within. rw (read i h) (omega (arith, held-at c state i));
     inflow = λ i h. rw (read i h) (inflow-exact (inForceAt c i) (cellIn state i) _ _);
     exit = exit-exact c state;
     passed-on = λ i h. rw (read i h, entered-stepped (suc i) h) (gone-at c state i (split-at c state good bounded i h));

@@ -16,7 +16,7 @@ use Rattle.rules.specs.Good.{GoodSplit}
 use Rattle.conditions.specs.Good.{GoodConditions}
 use Rattle.steps.specs.Bounded.{Bounded}
 use Rattle.steps.proofs.Sums.{length-replaced, replaced-at}
-use Rattle.segment.proofs.Laws.{good-split, main-wished, goes-on, all-go, held-most, ramp-queue}
+use Rattle.segment.proofs.Laws.{good-split, main-wished, none-let-in, goes-on, all-go, held-most, ramp-queue}
 
 -- ---- along the road
 pub split-at : (c : Conditions) (state : State) {t : ℕ} → GoodConditions c → Bounded (c .segments) t state → (i : ℕ) → i < c .segments
@@ -59,6 +59,10 @@ module _ (c : Conditions) (state : State) where
   -- after the step a segment holds at most its jam, and at most what was there where that was more
   pub held-at : (i : ℕ) → nextCell c state i .n ≤ max (cellIn state i .n) (inForceAt c i .jam)
   held-at i = held-most (inForceAt c i) (cellIn state i) _ _ _
+
+  -- above its jam it takes nothing in
+  pub none-let-in-at : (i : ℕ) → inForceAt c i .jam < cellIn state i .n → flowAt c state i .main + flowAt c state i .ramp ≡ 0
+  none-let-in-at i above = none-let-in (inForceAt c i) (cellIn state i) _ _ above
 
   pub ramp-queue-at : (i : ℕ) → flowAt c state i .ramp ≤ cellIn state i .q + inForceAt c i .demand
   ramp-queue-at i = ramp-queue (inForceAt c i) (cellIn state i) _ _

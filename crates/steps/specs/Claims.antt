@@ -1,5 +1,5 @@
--- Document 01, "The list statement": the claims on one step, from its conditions and the states before and after; the flows are those that
--- the state after tells.
+-- Document 01, "The list statement", with document 02, Q-1, the jam clause: the claims on one step, from its conditions and the states before
+-- and after; the flows are those that the state after tells, capacity and jam those in force in the step.
 use Prim.Native.Nat.{ℕ, zero, suc, _+_, _≤_, _<_, min}
 use mathlib.Core.Path.{_≡_}
 use lib.Dec.{ltb}
@@ -16,9 +16,10 @@ pub record Holds (c : Conditions) (before after : State) : Type 0 where
   -- each segment takes in at most its capacity, and lets out at most its capacity
   pub takes-in : (i : ℕ) → i < c .segments → cellIn after i .main + cellIn after i .ramp ≤ inForceAt c i .capacity
   pub lets-out : (i : ℕ) → i < c .segments → cellIn after i .out ≤ inForceAt c i .capacity
-  -- and holds at most its jam, at the step's start and at its end
-  pub jam-before : (i : ℕ) → i < c .segments → cellIn before i .n ≤ inForceAt c i .jam
-  pub jam-after : (i : ℕ) → i < c .segments → cellIn after i .n ≤ inForceAt c i .jam
+  -- above its jam it takes nothing in, and holds no more after the step than before; at or below, it holds at most its jam after
+  pub above-jam : (i : ℕ) → i < c .segments → inForceAt c i .jam < cellIn before i .n
+      → (cellIn after i .main + cellIn after i .ramp ≡ 0) × (cellIn after i .n ≤ cellIn before i .n)
+  pub within-jam : (i : ℕ) → i < c .segments → cellIn before i .n ≤ inForceAt c i .jam → cellIn after i .n ≤ inForceAt c i .jam
   -- its inflow is exactly the smaller of what wished to enter and what it could take; at the exit, of M and X
   pub inflow : (i : ℕ) → i < c .segments
       → cellIn after i .main + cellIn after i .ramp ≡ min (mainWishAt c before i + rampWishAt c before i) (supplyAt c before i)

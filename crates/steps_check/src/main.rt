@@ -1,20 +1,17 @@
-// Steps the roads on standard input, each from a fresh state, and prints the state and the flows after each step. A record is a line:
-//     steps COUNT ROAD PERIOD
-// COUNT is at most 255; ROAD and PERIOD are the bytes of the sheets in hexadecimal.
-use arithmetic::less_wide;
+// Steps roads from standard input, and prints the state and the flows after each step. A record is a line:
+//     road HEX             a road, from a fresh state
+//     steps COUNT PERIOD   puts a sheet in force at once, and makes 1 to 60 steps under it from the state before
+// HEX and PERIOD are the bytes of the sheets in hexadecimal. A road gets at most 96 sheets. What is refused changes nothing.
+use arithmetic::least;
+use door::Facility;
+use door::is_sound;
 use letters::Level;
 use records::Record;
 use records::say;
 use records::say_number;
 use segment::Cell;
-use steps::Ends;
-use steps::State;
+use sheets::places;
 use text::Numeral;
-ghost use Prim.Native.Nat.{_<_, _≤_};
-ghost use Rattle.parts.specs.Good.{GoodRoad, GoodPeriod};
-ghost use Rattle.conditions.specs.Conditions.{segments};
-ghost use Rattle.conditions.specs.Good.{GoodConditions};
-ghost use Rattle.conditions.specs.Row.{conditionsIn, HasShortcuts};
 
 fn say_cell(number: u64, cell: Cell, level: Level) {
     say_number(b"  ", number);
@@ -27,155 +24,196 @@ fn say_cell(number: u64, cell: Cell, level: Level) {
     say(&[b' ', letters::letter_byte(level), b'\n']);
 }
 
-fn say_cells(road: &[u32; 452], state: State)
-    requires { ⌜ segments (now road) ≤ 64 ⌝ }
-{
-    let ns = parts::globals_of_road(road).segments as usize;
+// A line a segment, with the letter by the open lanes.
+fn say_cells(f: Facility) {
+    let road = f.road;
+    let period = f.period;
+    let state = f.state;
+    let ns = places::segments(road[0]);
     let mut i: usize = 0;
     while i < ns {
         let cell = state.cells[i];
-        let k = 4 + 7 * i;
-        let level = letters::level_of(cell.n, road[k], road[k + 1]);
+        let length = parts::segment_at(&road, i as u32).length;
+        let lanes = parts::entry_at(&period, i as u32).opened;
+        let level = letters::level_of(cell.n, length, lanes);
         say_cell(i as u64 + 1, cell, level);
         i += 1;
     }
 }
 
-fn say_sums(t: u64, origin: u32, arrived: u64, left: u64, partsteps: u64) {
-    say_number(b"step ", t);
-    say_number(b" origin ", origin as u64);
-    say_number(b" arrived ", arrived);
-    say_number(b" left ", left);
-    say_number(b" partsteps ", partsteps);
+fn say_sums(f: Facility) {
+    let state = f.state;
+    say_number(b"step origin ", state.origin as u64);
+    say_number(b" arrived ", f.arrived);
+    say_number(b" left ", f.left);
+    say_number(b" partsteps ", f.partsteps);
     say(b"\n");
 }
 
-// Makes so many steps under the conditions in a row, and prints each.
-fn run(row: &[u32; 835], road: &[u32; 452], count: u64)
-    requires { ⌜ GoodConditions (conditionsIn (now row)) × HasShortcuts (now row) × (segments (now road) ≤ 64) × (count < 256) ⌝ }
-{
-    let each = arithmetic::wide(steps::arrived(row));
-    let mut cells = [0u32; 384];
-    steps::put_cells(&mut cells, steps::fresh());
-    let mut ends = Ends { origin: 0, exit: 0 };
-    let mut arrived: u64 = 0;
-    let mut left: u64 = 0;
-    let mut partsteps: u64 = 0;
-    let mut t: u64 = 0;
-    while t < count {
-        let done = steps::step(row, &mut cells, ends);
-        ends = done.ends;
-        arrived += each;
-        left += arithmetic::wide(done.left);
-        partsteps += less_wide(arrived, left);
-        t += 1;
-        let next = steps::state_of(&cells, ends);
-        say_sums(t, next.origin, arrived, left, partsteps);
-        say_cells(road, next);
-    }
-}
-
-// Works the conditions out, and makes the steps.
-fn run_under(road: &[u32; 452], period: &[u32; 452], count: u64)
-    requires { ⌜ GoodRoad (now road) × GoodPeriod (now road) (now period) × (count < 256) ⌝ }
-{
-    let mut row = [0u32; 835];
-    conditions::work_out(road, period, &mut row);
-    run(&row, road, count);
-}
-
-// Reads the road and its period, and steps.
-fn play_sheets(road_bytes: &[u8], period_bytes: &[u8], count: u64)
-    requires { ⌜ count < 256 ⌝ }
-{
-    let sheet = sheets::read_road(road_bytes);
-    let road = sheet.row;
-    let next = sheets::read_period(period_bytes, &road);
-    let period = next.row;
-    if parts::is_road(&road) {
-        if parts::is_period(&road, &period) {
-            say(b"ok\n");
-            run_under(&road, &period, count);
-            return;
+// Makes a step and prints what it leaves.
+fn step(f: Facility) -> Facility {
+    if is_sound(f) {
+        if 0 < f.taken {
+            if f.made < 60 {
+                let g = running::make_steps(f, 1);
+                say_sums(g);
+                say_cells(g);
+                return g;
+            }
         }
     }
-    say(b"not a road and its period\n");
+    say(b"no step\n");
+    f
 }
 
-// Plays the sheets of two words.
-fn play_words(road: &[u8], period: &[u8], count: u64)
-    requires { ⌜ count < 256 ⌝ }
-{
-    let mut road_bytes = io::large_buffer();
-    let mut period_bytes = io::large_buffer();
-    let first = records::bytes_of(road, &mut road_bytes);
-    let second = records::bytes_of(period, &mut period_bytes);
-    let n = first.count;
-    let m = second.count;
-    if first.fine & second.fine {
-        play_sheets(&road_bytes[0..n], &period_bytes[0..m], count);
-    } else {
-        say(b"not a record\n");
+fn run(f: Facility, count: u32) -> Facility {
+    let mut g = f;
+    let mut t: u32 = 0;
+    while t < count {
+        g = step(g);
+        t += 1;
+    }
+    g
+}
+
+// A road from a fresh state.
+fn fresh_on(road: [u32; 452]) -> Facility {
+    let period = [0u32; 452];
+    let state = steps::fresh();
+    Facility {
+        road,
+        period,
+        taken: 0,
+        made: 0,
+        state,
+        arrived: 0,
+        left: 0,
+        partsteps: 0,
     }
 }
 
-// Plays a road and its period by so many steps.
-fn play_steps(count: u32, rest: &[u8]) {
-    let road = text::next_word(rest, 0);
-    let a = road.start;
-    let b = road.end;
-    let period = records::only_word(&rest[b..]);
-    let c = period.start;
-    let d = period.end;
-    let sheet = &rest[b..];
-    if count < 256 {
-        play_words(&rest[a..b], &sheet[c..d], count as u64);
-    } else {
-        say(b"not a record\n");
+// The same state under one sheet more; the door refuses it where 96 are taken.
+fn with_sheet(f: Facility, period: [u32; 452]) -> Facility {
+    let road = f.road;
+    let state = f.state;
+    Facility {
+        road,
+        period,
+        taken: least(f.taken, 96) + 1,
+        made: 0,
+        state,
+        arrived: f.arrived,
+        left: f.left,
+        partsteps: f.partsteps,
+    }
+}
+
+// Goes on from the road of these bytes.
+fn put_road(f: Facility, bytes: &[u8]) -> Facility {
+    let sheet = sheets::read_road(bytes);
+    let row = sheet.row;
+    let g = fresh_on(row);
+    if is_sound(g) & (sheet.used == bytes.len()) {
+        say(b"ok\n");
+        return g;
+    }
+    say(b"not a road\n");
+    f
+}
+
+// Makes so many steps under the sheet of these bytes.
+fn run_under(f: Facility, bytes: &[u8], count: u32) -> Facility {
+    let sheet = sheets::read_period(bytes, &f.road);
+    let row = sheet.row;
+    let g = with_sheet(f, row);
+    if is_sound(g) & (sheet.used == bytes.len()) {
+        say(b"ok\n");
+        return run(g, count);
+    }
+    say(b"not a period\n");
+    f
+}
+
+fn say_not_a_record() {
+    say(b"not a record\n");
+}
+
+fn play_road(f: Facility, rest: &[u8]) -> Facility {
+    let mut bytes = io::large_buffer();
+    let given = records::only_bytes(rest, &mut bytes);
+    let n = given.count;
+    if given.fine {
+        return put_road(f, &bytes[0..n]);
+    }
+    say_not_a_record();
+    f
+}
+
+fn play_period(f: Facility, count: u32, rest: &[u8]) -> Facility {
+    let mut bytes = io::large_buffer();
+    let given = records::only_bytes(rest, &mut bytes);
+    let n = given.count;
+    if given.fine & (0 < count) & (count <= 60) {
+        return run_under(f, &bytes[0..n], count);
+    }
+    say_not_a_record();
+    f
+}
+
+fn play_steps(f: Facility, rest: &[u8]) -> Facility {
+    let number = text::next_word(rest, 0);
+    let from = number.start;
+    let to = number.end;
+    match text::number(&rest[from..to]) {
+        Numeral::Value(count) => play_period(f, count, &rest[to..]),
+        Numeral::Other => {
+            say_not_a_record();
+            f
+        }
     }
 }
 
 // Plays a record, and prints its answer.
-fn play(record: &[u8]) {
+fn play(record: &[u8], f: Facility) -> Facility {
     let name = text::next_word(record, 0);
-    let a = name.start;
-    let b = name.end;
-    let number = text::next_word(record, b);
-    let c = number.start;
-    let d = number.end;
-    if text::same(&record[a..b], b"steps") {
-        if let Numeral::Value(count) = text::number(&record[c..d]) {
-            play_steps(count, &record[d..]);
-            return;
-        }
+    let from = name.start;
+    let to = name.end;
+    if text::same(&record[from..to], b"road") {
+        return play_road(f, &record[to..]);
     }
-    say(b"not a record\n");
+    if text::same(&record[from..to], b"steps") {
+        return play_steps(f, &record[to..]);
+    }
+    say_not_a_record();
+    f
 }
 
-// Plays a record of a line, and tells whether there was one.
-fn play_line(line: &[u8], next: Record) -> bool {
+// Plays the record of a line.
+fn play_line(line: &[u8], next: Record, f: Facility) -> Facility {
     let from = next.start;
     let to = next.end;
     if line.len() < to {
-        return false;
+        return f;
     }
-    if to <= from {
-        return false;
+    if to < from {
+        return f;
     }
     records::say_record(&line[from..to]);
-    play(&line[from..to]);
-    true
+    play(&line[from..to], f)
 }
 
 fn main() {
     let mut chunk = io::buffer();
     let mut line = input::line_room();
     let mut next = records::next(records::start(), &mut chunk, &mut line);
+    let none = [0u32; 452];
+    let mut f = fresh_on(none);
     let mut turns = u64::MAX;
     while turns > 0 {
-        if !play_line(&line, next) {
+        if next.end <= next.start {
             return;
         }
+        f = play_line(&line, next, f);
         next = records::next(next, &mut chunk, &mut line);
         turns -= 1;
     }

@@ -3,13 +3,13 @@ use Prim.Native.Nat.{ℕ, zero, suc}
 use mathlib.Core.Path.{_≡_, refl}
 use mathlib.Core.List.{List, [], _∷_}
 use lib.ListN.{replicate}
-use Rattle.parts.specs.Parts.{roadGlobals, segmentOf, periodGlobals, rampOf}
+use Rattle.parts.specs.Parts.{roadGlobals, segmentOf, periodGlobals, entryOf}
 use Rattle.segment.specs.declared.Cell.{Cell}
 use Rattle.steps.specs.declared.State.{State}
 use Rattle.rules.specs.Rules.{largest, roundedUp, wishToLeave, off, through, mostLeaving, rampWish, entrance, supply, rampFlow, mainFlow, leaving}
 use Rattle.steps.specs.Step.{noCell, mainWishAt, queuedAt, mainFlowAt, replaced, stepped}
 use Rattle.segment.specs.Place.{splitOf, wishOf, mostOf, onwardOf, queuedOf, rampWishOf, entranceOf, supplyOf, inflowOf, leavingOf, movedOf}
-use Rattle.conditions.specs.Conditions.{partsAt, loweredBy, segments, SheetInForce, None, Under, conditionsOf, demandUnder, outletUnder, rampUnder, inForce}
+use Rattle.conditions.specs.Conditions.{openCapacity, partsAt, loweredBy, segments, SheetInForce, None, Under, conditionsOf, demandUnder, outletUnder, entryUnder, inForce}
 use Rattle.conditions.specs.Values.{valuesTo}
 
 cell : (n q f r off y : ℕ) → Cell
@@ -19,17 +19,25 @@ cell n q f r o y = record { n = n; q = q; main = f; ramp = r; off = o; out = y }
 laid : ℕ → State
 laid ns = record { cells = replicate ns noCell; origin = 0; exit = 0 }
 
--- so many steps from a road just laid, under a sheet or under none
-after : ℕ → List ℕ → SheetInForce → State
-after zero road sheet = laid (segments road)
-after (suc k) road sheet = stepped (conditionsOf road sheet) (after k road sheet)
+-- a sheet in force, or none, for so many steps
+data Stretch : Type 0 where
+  For : (steps : ℕ) → SheetInForce → Stretch
 
--- a road and the sheet in force, and the state after so many steps
+-- so many steps under a sheet, and one stretch after the other
+under : ℕ → List ℕ → SheetInForce → State → State
+under zero road sheet state = state
+under (suc k) road sheet state = stepped (conditionsOf road sheet) (under k road sheet state)
+
+after : List ℕ → State → List Stretch → State
+after road state [] = state
+after road state (For k sheet ∷ more) = after road (under k road sheet state) more
+
+-- a road, the stretches from the road just laid on, and the state after them
 data Trace : Type 0 where
-  From : (road : List ℕ) → SheetInForce → (steps : ℕ) → State → Trace
+  From : (road : List ℕ) → List Stretch → State → Trace
 
 Agrees : Trace → Type 0
-Agrees (From road sheet k state) = after k road sheet ≡ state
+Agrees (From road stretches state) = after road (laid (segments road)) stretches ≡ state
 
 AllAgree : List Trace → Type 0
 AllAgree [] = Unit {0}
@@ -40,8 +48,7 @@ traces =
     -- the worked study
     From
     (1 ∷ 190 ∷ 45 ∷ 7 ∷ 1320 ∷ 2 ∷ 60 ∷ 4400 ∷ 0 ∷ 0 ∷ 0 ∷ [])
-    (Under (1 ∷ 4800 ∷ 10000 ∷ 0 ∷ 0 ∷ []))
-    3
+    (For 3 (Under (1 ∷ 4800 ∷ 10000 ∷ 0 ∷ 0 ∷ 2 ∷ [])) ∷ [])
     (record { cells = cell 4092 0 4092 0 0 4092 ∷ []; origin = 1816; exit = 4092 })
     -- an off-ramp that takes nobody, and one of share 1000
     ∷ From
@@ -51,14 +58,12 @@ traces =
     ∷ 2640 ∷ 3 ∷ 60 ∷ 6600 ∷ 0 ∷ 1000 ∷ 100
     ∷ 2640 ∷ 3 ∷ 60 ∷ 6600 ∷ 0 ∷ 0 ∷ 0
     ∷ [])
-    (Under (4 ∷ 5000 ∷ 20000 ∷ 0 ∷ 0 ∷ 0 ∷ 0 ∷ 0 ∷ 0 ∷ 0 ∷ 0 ∷ []))
-    8
+    (For 8 (Under (4 ∷ 5000 ∷ 20000 ∷ 0 ∷ 0 ∷ 3 ∷ 0 ∷ 0 ∷ 3 ∷ 0 ∷ 0 ∷ 3 ∷ 0 ∷ 0 ∷ 3 ∷ [])) ∷ [])
     (record { cells = cell 9960 0 5000 0 0 4961 ∷ cell 30028 0 4961 0 0 2 ∷ cell 3 0 2 0 2 2 ∷ cell 0 0 0 0 0 0 ∷ []; origin = 0; exit = 0 })
     -- metered ramps, one meter at zero
     ∷ From
     (3 ∷ 190 ∷ 45 ∷ 7 ∷ 2640 ∷ 3 ∷ 60 ∷ 6600 ∷ 1800 ∷ 0 ∷ 0 ∷ 2640 ∷ 3 ∷ 60 ∷ 6600 ∷ 1800 ∷ 0 ∷ 0 ∷ 2640 ∷ 2 ∷ 60 ∷ 4400 ∷ 1800 ∷ 0 ∷ 0 ∷ [])
-    (Under (3 ∷ 3500 ∷ 20000 ∷ 600 ∷ 240 ∷ 900 ∷ 400 ∷ 700 ∷ 0 ∷ []))
-    5
+    (For 5 (Under (3 ∷ 3500 ∷ 20000 ∷ 600 ∷ 240 ∷ 3 ∷ 900 ∷ 400 ∷ 3 ∷ 700 ∷ 0 ∷ 2 ∷ [])) ∷ [])
     (record { cells = cell 7246 1800 3500 240 0 3506 ∷ cell 6852 2500 3506 400 0 2947 ∷ cell 4390 3500 2947 0 0 1444 ∷ []; origin = 0; exit = 1444 })
     -- five segments of uneven kinds
     ∷ From
@@ -69,8 +74,7 @@ traces =
     ∷ 2512 ∷ 3 ∷ 34 ∷ 20000 ∷ 10000 ∷ 224 ∷ 600
     ∷ 500 ∷ 1 ∷ 60 ∷ 1 ∷ 1800 ∷ 250 ∷ 1
     ∷ [])
-    (Under (5 ∷ 20000 ∷ 20000 ∷ 600 ∷ 10000 ∷ 9912 ∷ 0 ∷ 600 ∷ 0 ∷ 0 ∷ 900 ∷ 3210 ∷ 8933 ∷ []))
-    4
+    (For 4 (Under (5 ∷ 20000 ∷ 20000 ∷ 600 ∷ 10000 ∷ 6 ∷ 9912 ∷ 0 ∷ 6 ∷ 600 ∷ 0 ∷ 7 ∷ 0 ∷ 900 ∷ 3 ∷ 3210 ∷ 8933 ∷ 1 ∷ [])) ∷ [])
     (record {
       cells = cell 24544 2400 7 0 0 0 ∷ cell 0 39648 0 0 0 0 ∷ cell 0 2400 0 0 0 0 ∷ cell 0 0 0 0 0 0 ∷ cell 1 12836 0 1 0 1 ∷ [];
       origin = 55456;
@@ -79,47 +83,92 @@ traces =
     -- a segment at its jam
     ∷ From
     (2 ∷ 100 ∷ 60 ∷ 50 ∷ 300 ∷ 1 ∷ 15 ∷ 20000 ∷ 0 ∷ 0 ∷ 0 ∷ 300 ∷ 1 ∷ 15 ∷ 1 ∷ 0 ∷ 0 ∷ 0 ∷ [])
-    (Under (2 ∷ 20000 ∷ 20000 ∷ 0 ∷ 0 ∷ 0 ∷ 0 ∷ []))
-    8
+    (For 8 (Under (2 ∷ 20000 ∷ 20000 ∷ 0 ∷ 0 ∷ 1 ∷ 0 ∷ 0 ∷ 1 ∷ [])) ∷ [])
     (record { cells = cell 1363 0 0 0 0 0 ∷ cell 0 0 0 0 0 0 ∷ []; origin = 158637; exit = 0 })
     -- ramps held by R = 0 and by a meter at zero
     ∷ From
     (2 ∷ 190 ∷ 45 ∷ 7 ∷ 2640 ∷ 3 ∷ 60 ∷ 6600 ∷ 0 ∷ 0 ∷ 0 ∷ 2640 ∷ 3 ∷ 60 ∷ 6600 ∷ 500 ∷ 0 ∷ 0 ∷ [])
-    (Under (2 ∷ 2000 ∷ 20000 ∷ 500 ∷ 900 ∷ 500 ∷ 0 ∷ []))
-    8
+    (For 8 (Under (2 ∷ 2000 ∷ 20000 ∷ 500 ∷ 900 ∷ 3 ∷ 500 ∷ 0 ∷ 3 ∷ [])) ∷ [])
     (record { cells = cell 3984 4000 2000 0 0 1984 ∷ cell 3859 4000 1984 0 0 1875 ∷ []; origin = 0; exit = 1875 })
     -- before any sheet a road just laid stays as it is
     ∷ From
     (2 ∷ 190 ∷ 45 ∷ 7 ∷ 2640 ∷ 3 ∷ 60 ∷ 6600 ∷ 500 ∷ 0 ∷ 0 ∷ 2640 ∷ 3 ∷ 60 ∷ 6600 ∷ 500 ∷ 0 ∷ 0 ∷ [])
-    None
-    3
+    (For 3 None ∷ [])
     (record { cells = cell 0 0 0 0 0 0 ∷ cell 0 0 0 0 0 0 ∷ []; origin = 0; exit = 0 })
+    -- a lane closed on a busy road
+    ∷ From
+    (6 ∷ 190 ∷ 45 ∷ 7
+    ∷ 2640 ∷ 3 ∷ 60 ∷ 6600 ∷ 0 ∷ 0 ∷ 0
+    ∷ 2640 ∷ 3 ∷ 60 ∷ 6600 ∷ 2000 ∷ 0 ∷ 0
+    ∷ 2640 ∷ 3 ∷ 60 ∷ 6600 ∷ 0 ∷ 0 ∷ 0
+    ∷ 2640 ∷ 2 ∷ 60 ∷ 4200 ∷ 0 ∷ 0 ∷ 0
+    ∷ 2640 ∷ 3 ∷ 60 ∷ 6600 ∷ 0 ∷ 150 ∷ 900
+    ∷ 2640 ∷ 3 ∷ 60 ∷ 6600 ∷ 0 ∷ 0 ∷ 0
+    ∷ [])
+    (For 12 (Under (6 ∷ 5200 ∷ 20000 ∷ 0 ∷ 0 ∷ 3 ∷ 500 ∷ 900 ∷ 3 ∷ 0 ∷ 0 ∷ 3 ∷ 0 ∷ 0 ∷ 2 ∷ 0 ∷ 0 ∷ 3 ∷ 0 ∷ 0 ∷ 3 ∷ []))
+    ∷ For 3 (Under (6 ∷ 5200 ∷ 20000 ∷ 0 ∷ 0 ∷ 3 ∷ 500 ∷ 900 ∷ 3 ∷ 0 ∷ 0 ∷ 2 ∷ 0 ∷ 0 ∷ 2 ∷ 0 ∷ 0 ∷ 3 ∷ 0 ∷ 0 ∷ 3 ∷ []))
+    ∷ [])
+    (record { cells = cell 10399 0 5200 0 0 5200 ∷ cell 17105 0 5200 500 0 3802 ∷ cell 15419 0 3802 0 0 3906 ∷ cell 7876 0 3906 0 0 3970 ∷ cell 8008 0 3970 0 605 4038 ∷ cell 6680 0 3433 0 0 3248 ∷ []; origin = 0; exit = 3248 })
+    -- one of eight lanes open, which leaves no capacity, and all reopened
+    ∷ From
+    (3 ∷ 190 ∷ 45 ∷ 7
+    ∷ 2640 ∷ 8 ∷ 60 ∷ 1 ∷ 0 ∷ 0 ∷ 0
+    ∷ 2640 ∷ 8 ∷ 60 ∷ 7 ∷ 500 ∷ 0 ∷ 0
+    ∷ 2640 ∷ 3 ∷ 60 ∷ 6600 ∷ 0 ∷ 0 ∷ 0
+    ∷ [])
+    (For 12 (Under (3 ∷ 500 ∷ 20000 ∷ 0 ∷ 0 ∷ 1 ∷ 10 ∷ 20 ∷ 1 ∷ 0 ∷ 0 ∷ 3 ∷ []))
+    ∷ For 12 (Under (3 ∷ 500 ∷ 20000 ∷ 0 ∷ 0 ∷ 1 ∷ 10 ∷ 20 ∷ 1 ∷ 0 ∷ 0 ∷ 3 ∷ []))
+    ∷ For 10 (Under (3 ∷ 500 ∷ 20000 ∷ 0 ∷ 0 ∷ 8 ∷ 0 ∷ 0 ∷ 8 ∷ 0 ∷ 0 ∷ 3 ∷ []))
+    ∷ [])
+    (record { cells = cell 0 0 0 0 0 0 ∷ cell 0 240 0 0 0 0 ∷ cell 0 0 0 0 0 0 ∷ []; origin = 17000; exit = 0 })
+    -- ramps' shares by the open lanes, and reopened
+    ∷ From
+    (3 ∷ 190 ∷ 45 ∷ 7
+    ∷ 2640 ∷ 3 ∷ 60 ∷ 6600 ∷ 1800 ∷ 0 ∷ 0
+    ∷ 2640 ∷ 3 ∷ 60 ∷ 6600 ∷ 1800 ∷ 0 ∷ 0
+    ∷ 2640 ∷ 2 ∷ 60 ∷ 4400 ∷ 1800 ∷ 0 ∷ 0
+    ∷ [])
+    (For 12 (Under (3 ∷ 6000 ∷ 20000 ∷ 600 ∷ 2400 ∷ 3 ∷ 900 ∷ 4000 ∷ 1 ∷ 700 ∷ 10000 ∷ 1 ∷ []))
+    ∷ For 3 (Under (3 ∷ 3500 ∷ 20000 ∷ 600 ∷ 10000 ∷ 3 ∷ 900 ∷ 10000 ∷ 3 ∷ 700 ∷ 10000 ∷ 2 ∷ []))
+    ∷ [])
+    (record { cells = cell 40480 502 2735 547 0 5238 ∷ cell 16103 0 5238 900 0 3700 ∷ cell 8212 0 3700 700 0 3812 ∷ []; origin = 22310; exit = 3812 })
+    -- six lanes open, two, and six again
+    ∷ From
+    (1 ∷ 189 ∷ 36 ∷ 43 ∷ 13697 ∷ 6 ∷ 57 ∷ 18177 ∷ 8078 ∷ 250 ∷ 7709 ∷ [])
+    (For 12 (Under (1 ∷ 2026 ∷ 12798 ∷ 990 ∷ 10000 ∷ 6 ∷ []))
+    ∷ For 12 (Under (1 ∷ 1441 ∷ 20000 ∷ 424 ∷ 10000 ∷ 6 ∷ []))
+    ∷ For 10 (Under (1 ∷ 5516 ∷ 20000 ∷ 6623 ∷ 9895 ∷ 2 ∷ []))
+    ∷ For 5 (Under (1 ∷ 0 ∷ 14632 ∷ 9983 ∷ 900 ∷ 6 ∷ []))
+    ∷ [])
+    (record { cells = cell 44206 102438 0 900 1091 4365 ∷ []; origin = 0; exit = 3274 })
+    -- four segments of uneven kinds, most of their lanes closed
+    ∷ From
+    (4 ∷ 229 ∷ 34 ∷ 33
+    ∷ 19232 ∷ 5 ∷ 31 ∷ 7053 ∷ 0 ∷ 100 ∷ 10000
+    ∷ 2060 ∷ 4 ∷ 30 ∷ 604 ∷ 1800 ∷ 292 ∷ 10000
+    ∷ 1320 ∷ 8 ∷ 35 ∷ 411 ∷ 9914 ∷ 0 ∷ 1
+    ∷ 2067 ∷ 6 ∷ 40 ∷ 752 ∷ 6342 ∷ 866 ∷ 0
+    ∷ [])
+    (For 12 (Under (4 ∷ 4800 ∷ 20000 ∷ 400 ∷ 900 ∷ 1 ∷ 400 ∷ 900 ∷ 1 ∷ 400 ∷ 10000 ∷ 1 ∷ 0 ∷ 0 ∷ 6 ∷ [])) ∷ [])
+    (record { cells = cell 10905 4800 944 0 8 84 ∷ cell 1416 3792 76 75 10 36 ∷ cell 86 4474 26 25 0 51 ∷ cell 516 0 51 0 0 1 ∷ []; origin = 45806; exit = 1 })
+    -- both segments above their jam behind a narrow exit: nobody gains, mainline and ramps wait
+    ∷ From
+    (2 ∷ 100 ∷ 60 ∷ 50 ∷ 300 ∷ 2 ∷ 60 ∷ 20000 ∷ 500 ∷ 0 ∷ 0 ∷ 300 ∷ 2 ∷ 60 ∷ 8000 ∷ 500 ∷ 0 ∷ 0 ∷ [])
+    (For 3 (Under (2 ∷ 20000 ∷ 0 ∷ 100 ∷ 100 ∷ 2 ∷ 100 ∷ 100 ∷ 2 ∷ []))
+    ∷ For 1 (Under (2 ∷ 500 ∷ 0 ∷ 100 ∷ 100 ∷ 1 ∷ 100 ∷ 100 ∷ 1 ∷ []))
+    ∷ For 3 (Under (2 ∷ 500 ∷ 300 ∷ 100 ∷ 100 ∷ 1 ∷ 100 ∷ 100 ∷ 1 ∷ []))
+    ∷ [])
+    (record { cells = cell 2727 500 0 0 0 0 ∷ cell 1827 500 0 0 0 300 ∷ []; origin = 56946; exit = 300 })
+    -- and with the exit open they are back at or below it
+    ∷ From
+    (2 ∷ 100 ∷ 60 ∷ 50 ∷ 300 ∷ 2 ∷ 60 ∷ 20000 ∷ 500 ∷ 0 ∷ 0 ∷ 300 ∷ 2 ∷ 60 ∷ 8000 ∷ 500 ∷ 0 ∷ 0 ∷ [])
+    (For 3 (Under (2 ∷ 20000 ∷ 0 ∷ 100 ∷ 100 ∷ 2 ∷ 100 ∷ 100 ∷ 2 ∷ []))
+    ∷ For 4 (Under (2 ∷ 500 ∷ 20000 ∷ 100 ∷ 100 ∷ 1 ∷ 100 ∷ 100 ∷ 1 ∷ []))
+    ∷ [])
+    (record { cells = cell 201 500 0 0 0 1263 ∷ cell 1363 300 1263 100 0 0 ∷ []; origin = 56946; exit = 0 })
     ∷ []
 
 -- every trace is what the rules give
 every-trace : AllAgree traces
-unfolding AllAgree Agrees traces after laid cell stepped replaced mainFlowAt queuedAt mainWishAt splitOf wishOf mostOf onwardOf queuedOf rampWishOf entranceOf supplyOf inflowOf leavingOf movedOf conditionsOf demandUnder outletUnder rampUnder inForce valuesTo roadGlobals segmentOf periodGlobals rampOf leaving mainFlow rampFlow supply entrance loweredBy rampWish mostLeaving through off wishToLeave partsAt roundedUp largest
-every-trace = (refl, (refl, (refl, (refl, (refl, (refl, (refl, tt)))))))
-
--- before any sheet the road's own lanes and C are in force, and every ramp is held
-unsheeted : conditionsOf (1 ∷ 190 ∷ 45 ∷ 7 ∷ 1320 ∷ 2 ∷ 60 ∷ 4400 ∷ 900 ∷ 0 ∷ 0 ∷ []) None
-    ≡ record {
-      segments = 1;
-      demand = 0;
-      outlet = 0;
-      places = record {
-        length = 1320;
-        speed = 60;
-        lanes = 2;
-        capacity = 4400;
-        lowered = 4092;
-        jam = 22800;
-        critical = 5400;
-        limit = 0;
-        share = 0;
-        offramp = 0;
-        demand = 0;
-      } ∷ [];
-    }
-unfolding conditionsOf demandUnder outletUnder rampUnder inForce valuesTo loweredBy partsAt roadGlobals segmentOf
-unsheeted = refl
+unfolding AllAgree Agrees traces after under laid cell stepped replaced mainFlowAt queuedAt mainWishAt splitOf wishOf mostOf onwardOf queuedOf rampWishOf entranceOf supplyOf inflowOf leavingOf movedOf conditionsOf demandUnder outletUnder entryUnder inForce valuesTo roadGlobals segmentOf periodGlobals entryOf leaving mainFlow rampFlow supply entrance openCapacity loweredBy rampWish mostLeaving through off wishToLeave partsAt roundedUp largest
+every-trace = (refl, (refl, (refl, (refl, (refl, (refl, (refl, (refl, (refl, (refl, (refl, (refl, (refl, (refl, tt))))))))))))))

@@ -75,20 +75,20 @@ unfolding andThen
 then-within m at (Read v n) rest l h q = onto-within m (v ∷ []) (rest n) (q n h)
 then-within m at (Refused e) rest l h q = l
 
-fields-within : (l : Layout) (s : List ℕ) (left k at : ℕ) → at ≤ length s → RowWithin (length s) (fields (fieldOf l s) left k at)
+fields-within : (l : Layout) (road s : List ℕ) (left k at : ℕ) → at ≤ length s → RowWithin (length s) (fields (fieldOf l road s) left k at)
 unfolding fields
-fields-within l s zero k at h = h
-fields-within l s (suc left) k at h =
-    then-within (length s) at (fieldOf l s k at) (fields (fieldOf l s) left (k + 1)) h (field-within (rangeOf l k) s at h)
-    (λ n. fields-within l s left (k + 1) n)
+fields-within l road s zero k at h = h
+fields-within l road s (suc left) k at h =
+    then-within (length s) at (fieldOf l road s k at) (fields (fieldOf l road s) left (k + 1)) h (field-within (rangeOf l road k) s at h)
+    (λ n. fields-within l road s left (k + 1) n)
 
-row-within : (l : Layout) (s : List ℕ) → RowWithin (length s) (readRow l s)
+row-within : (l : Layout) (road s : List ℕ) → RowWithin (length s) (readRow l road s)
 unfolding readRow
-row-within l s = fields-within l s (countOf l) 0 0 (omega arith)
+row-within l road s = fields-within l road s (countOf l) 0 0 (omega arith)
 
 from-within : (s : List ℕ) (x : Reading) → RowWithin (length s) (roadFrom s x)
 unfolding roadFrom
-from-within s (Read ns n) = row-within (Road ns) s
+from-within s (Read ns n) = row-within (Road ns) [] s
 from-within s (Refused e) = omega arith
 
 pub road-within : (s : List ℕ) → RowWithin (length s) (readRoad s)
@@ -97,4 +97,4 @@ road-within s = from-within s (readField (roadRange 0) s 0)
 
 pub period-within : (road s : List ℕ) → RowWithin (length s) (readPeriod road s)
 unfolding readPeriod
-period-within road s = row-within (Period (getD road 0 0)) s
+period-within road s = row-within (Period (getD road 0 0)) road s

@@ -3,8 +3,7 @@
 use numbers::Number;
 use numbers::Range;
 use sheets::Layout;
-ghost use Prim.Native.Nat.{_≤_};
-ghost use lib.ListN.{length};
+use sheets::SheetReading;
 
 // A refusal's number, 0 for none, and its place in the bytes.
 struct Refusal {
@@ -51,10 +50,11 @@ fn say_period_field(output: i32, k: usize) -> bool {
     }
 }
 
-fn say_ramp_field(output: i32, j: usize) -> bool {
+fn say_entry_field(output: i32, j: usize) -> bool {
     match j {
         0 => io::write_all(output, b": ramp demand"),
-        _ => io::write_all(output, b": meter rate"),
+        1 => io::write_all(output, b": meter rate"),
+        _ => io::write_all(output, b": open lanes"),
     }
 }
 
@@ -73,7 +73,7 @@ fn say_field(output: i32, sheet: u32, k: usize) -> bool {
     if k < 3 {
         return say_period_field(output, k);
     }
-    say_segment(output, (k - 3) / 2 + 1) & say_ramp_field(output, (k - 3) % 2)
+    say_segment(output, (k - 3) / 3 + 1) & say_entry_field(output, (k - 3) % 3)
 }
 
 // The comment before a sheet.
@@ -178,7 +178,7 @@ fn say_next(output: i32, bytes: &[u8], f: Next) -> Next {
     }
 }
 
-// Writes the fields before a place of the bytes: a study has at most 4 + 7 × 64 and 96 × (3 + 2 × 64) of them.
+// Writes the fields before a place of the bytes: a study has at most 4 + 7 × 64 and 96 × (3 + 3 × 64) of them.
 fn say_fields(output: i32, bytes: &[u8], stop: usize) -> Next {
     let mut f = Next {
         at: 0,
@@ -188,7 +188,7 @@ fn say_fields(output: i32, bytes: &[u8], stop: usize) -> Next {
         fine: say_sheet(output, 0),
     };
     let mut i: u32 = 0;
-    while i < 13028 {
+    while i < 19172 {
         if stop <= f.at {
             return f;
         }
@@ -254,8 +254,20 @@ fn say_range(output: i32, range: Range) -> bool {
         & io::write_all(output, b"\n")
 }
 
+// The range of a field, a period's by the road. No sheet has a place past 451.
+fn range_of(f: Next, road: &[u32; 452]) -> Range {
+    if f.place < 452 {
+        return sheets::range_at(layout_of(f.sheet, f.segments), road, f.place);
+    }
+    Range {
+        low: 0,
+        high: 0,
+        refusal: 0,
+    }
+}
+
 // A comment on the field that is refused: the refusal with its place, the field, what was read, its range.
-fn say_refused(output: i32, bytes: &[u8], f: Next, number: u8) -> bool {
+fn say_refused(output: i32, bytes: &[u8], road: &[u32; 452], f: Next, number: u8) -> bool {
     let told = io::write_all(output, b"# refused ")
         & io::print_decimal(output, number as u64)
         & io::write_all(output, b" at byte ")
@@ -269,10 +281,7 @@ fn say_refused(output: i32, bytes: &[u8], f: Next, number: u8) -> bool {
         & say_field(output, f.sheet, f.place)
         & io::write_all(output, b": read ")
         & say_read(output, bytes, f.at)
-        & say_range(
-            output,
-            sheets::range_at(layout_of(f.sheet, f.segments), f.place),
-        )
+        & say_range(output, range_of(f, road))
 }
 
 // The refusal of a study's periods, from a place of its bytes on: field by field, and 13 where more than 96 stand there.
@@ -293,9 +302,8 @@ fn refusal_from(bytes: &[u8], start: usize, road: &[u32; 452]) -> Refusal {
     refused_at(if bytes.len() <= at { 0 } else { 13 }, at)
 }
 
-// The refusal of a study: that of its road, or of its periods.
-fn refusal_of(bytes: &[u8]) -> Refusal {
-    let sheet = sheets::read_road(bytes);
+// The refusal of a study: that of its road, which was read, or of its periods.
+fn refusal_of(bytes: &[u8], sheet: SheetReading) -> Refusal {
     if sheet.refusal != 0 {
         return refused_at(sheet.refusal, sheet.offset);
     }
@@ -318,18 +326,20 @@ fn complain_of_refusal(errors: i32, number: u8, place: usize) {
 }
 
 // Writes the fields, of a refused study those before the bad one with a comment on that, and tells whether all was written.
-fn say_study(output: i32, bytes: &[u8], refusal: u8, place: usize) -> bool {
+fn say_study(output: i32, bytes: &[u8], road: &[u32; 452], refusal: u8, place: usize) -> bool {
     if refusal == 0 {
         let all = say_fields(output, bytes, bytes.len());
         return all.fine;
     }
     let f = say_fields(output, bytes, place);
-    f.fine & say_refused(output, bytes, f, refusal)
+    f.fine & say_refused(output, bytes, road, f, refusal)
 }
 
 fn say_or_complain(output: i32, errors: i32, bytes: &[u8]) {
-    let seen = refusal_of(bytes);
-    if !say_study(output, bytes, seen.number, seen.place) {
+    let sheet = sheets::read_road(bytes);
+    let road = sheet.row;
+    let seen = refusal_of(bytes, sheet);
+    if !say_study(output, bytes, &road, seen.number, seen.place) {
         complain(errors, b"cannot write the text");
     }
     if seen.number != 0 {

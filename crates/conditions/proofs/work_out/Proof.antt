@@ -47,24 +47,29 @@ cast-segment-at c = omega (arith, c .before .loop .inv .all, c .before .before .
 segment-at-requires : tie.Need-segment-at-requires Inv-loop μ-loop
 segment-at-requires c κs = tt
 
-cast-ramp-at : tie.Need-cast-ramp-at Inv-loop μ-loop
-cast-ramp-at c = omega (arith, c .before .before .loop .inv .all, c .before .before .before .before .before .before .pre .0 .segments .1)
+cast-entry-at : tie.Need-cast-entry-at Inv-loop μ-loop
+cast-entry-at c = omega (arith, c .before .before .loop .inv .all, c .before .before .before .before .before .before .pre .0 .segments .1)
 
-ramp-at-requires : tie.Need-ramp-at-requires Inv-loop μ-loop
-ramp-at-requires c κs = tt
+entry-at-requires : tie.Need-entry-at-requires Inv-loop μ-loop
+entry-at-requires c κs = tt
 
 in-force-requires : tie.Need-in-force-requires Inv-loop μ-loop
 in-force-requires c κs =
     let p = c .before .before .before .before .before .before .before .pre .0 in
     let at = c .before .before .before .loop .inv in
-    (rw (at .globals-are) (good-globals _ p), rw (c .before .segment-at .ensures) (p .segment _ (omega (arith, at .all))))
+    let sheet = c .before .before .before .before .before .before .before .pre .1 in
+    let seg = c .before .segment-at .ensures in (
+      rw (at .globals-are) (good-globals _ p),
+      rw seg (p .segment _ (omega (arith, at .all))),
+      rw (seg, c .entry-at .ensures) (sheet .entry _ (omega (arith, at .all))),
+    )
 
 put-in-force-requires : tie.Need-put-in-force-requires Inv-loop μ-loop
 put-in-force-requires c κs =
     let at = c .before .before .before .before .before in
     let start = at .before .before .before .before in
     filling-fits _ _ _ _ _ _ (at .loop .inv) (start .pre .0) (start .pre .1) (c .before .before .before .before .loop-test .taken) _ _ _
-    (c .before .before .before .segment-at .ensures) (c .before .before .ramp-at .ensures) (c .before .in-force .ensures)
+    (c .before .before .before .segment-at .ensures) (c .before .before .entry-at .ensures) (c .before .in-force .ensures)
 
 add-i : tie.Need-add-i Inv-loop μ-loop
 add-i c =
@@ -80,7 +85,7 @@ loop-again c =
     let start = at .before .before .before .before in
     rw (c .put-in-force .ensures)
     (filling-more _ _ _ _ _ _ (at .loop .inv) (start .pre .0) (start .pre .1) (c .before .before .before .before .before .loop-test .taken) _ _ _
-    (c .before .before .before .before .segment-at .ensures) (c .before .before .before .ramp-at .ensures) (c .before .before .in-force .ensures))
+    (c .before .before .before .before .segment-at .ensures) (c .before .before .before .entry-at .ensures) (c .before .before .in-force .ensures))
 
 returns : tie.Need-returns Inv-loop μ-loop
 returns c =
@@ -102,8 +107,8 @@ work-out-spec =
     loop-holds
     cast-segment-at
     segment-at-requires
-    cast-ramp-at
-    ramp-at-requires
+    cast-entry-at
+    entry-at-requires
     in-force-requires
     put-in-force-requires
     add-i

@@ -5,19 +5,19 @@ use Rattle.parts.proofs.is_opening.Statement.{statement}
 use Rattle.parts.proofs.is_opening.Tie as tie
 
 period-range-requires : tie.Need-period-range-requires
-period-range-requires c κs = tt
+period-range-requires c κs = omega arith
 
 is-within-requires : tie.Need-is-within-requires
 is-within-requires c κs = omega arith
 
 period-range-requires-2 : tie.Need-period-range-requires-2
-period-range-requires-2 c κs = tt
+period-range-requires-2 c κs = omega arith
 
 is-within-requires-2 : tie.Need-is-within-requires-2
 is-within-requires-2 c κs = omega arith
 
 period-range-requires-3 : tie.Need-period-range-requires-3
-period-range-requires-3 c κs = tt
+period-range-requires-3 c κs = omega arith
 
 is-within-requires-3 : tie.Need-is-within-requires-3
 is-within-requires-3 c κs = omega arith

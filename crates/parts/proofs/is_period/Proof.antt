@@ -1,4 +1,4 @@
--- The loop over a period's ramps: those before i, and the start, are tested.
+-- The loop over a period's entries: those before i, and the start, are tested.
 use mathlib.Core.Path.{_≡_, ap, _∙_}
 use mathlib.Core.Bool.{Bool}
 use mathlib.Core.List.{List}
@@ -6,18 +6,18 @@ use Prim.Native.Nat.{ℕ, _+_, _-_, _*_, _≤_, min}
 use native.Mathlib.Omega.{arith}
 use lib.ListN.{getD}
 use denote.Ref.{now}
-use Rattle.sheets.specs.Layout.{_to_, periodRange, rangeOf, countOf}
+use Rattle.sheets.specs.Layout.{periodRange, rangeOf, countOf}
 use Rattle.parts.specs.Allowed.{within, all-below, allowed, periodAllowed}
-use Rattle.parts.proofs.Groups.{group-more, ramp-place}
+use Rattle.parts.proofs.Groups.{ofEntry, group-more, entry-range-at}
 use Rattle.parts.proofs.is_period.Statement.{statement}
 use Rattle.parts.proofs.is_period.Tie as tie
 
 -- the test of the place k
 abbrev test : List ℕ → List ℕ → ℕ → Bool
-test road row k = within (periodRange (getD road 0 0) k) (getD row k 0)
+test road row k = within (periodRange (getD road 0 0) road k) (getD row k 0)
 
 abbrev Inv-loop : tie.InvT-loop
-Inv-loop road row ns ok₀ i₀ ok i = (ok ≡ all-below (test road row) (3 + 2 * i)) × (i ≤ ns)
+Inv-loop road row ns ok₀ i₀ ok i = (ok ≡ all-below (test road row) (3 + 3 * i)) × (i ≤ ns)
 
 abbrev μ-loop : tie.MeasureT-loop
 μ-loop road row ns ok₀ i₀ ok i = ns - i
@@ -37,8 +37,8 @@ is-opening-requires c κs = tt
 loop-holds : tie.Need-loop-holds Inv-loop μ-loop
 loop-holds c = (c .is-opening .ensures, omega arith)
 
-is-ramp-requires : tie.Need-is-ramp-requires Inv-loop μ-loop
-is-ramp-requires c κs = omega (arith, c .before .before .before .before .segments .ensures)
+is-entry-requires : tie.Need-is-entry-requires Inv-loop μ-loop
+is-entry-requires c κs = omega (arith, c .before .before .before .before .segments .ensures)
 
 add-i : tie.Need-add-i Inv-loop μ-loop
 add-i c = omega (arith, c .before .before .before .before .before .segments .ensures)
@@ -51,7 +51,8 @@ loop-again c =
     let l = c .before .before .loop in
     let a = c .before .before .before .before .before .before .before .args in
     let ns = getD (now (a .road)) 0 0 in
-    (group-more (periodRange ns) (λ _. 0 to 10000) (now (a .row)) 3 2 (l .i) _ _ (l .inv .0) (c .is-ramp .ensures) (ramp-place ns (l .i)), omega arith)
+    let road = now (a .road) in
+    (group-more (periodRange ns road) (ofEntry road (l .i)) (now (a .row)) 3 3 (l .i) _ _ (l .inv .0) (c .is-entry .ensures) (entry-range-at ns road (l .i)), omega arith)
 
 returns : tie.Need-returns Inv-loop μ-loop
 unfolding periodAllowed allowed rangeOf countOf
@@ -59,7 +60,7 @@ returns c =
     let l = c .before .loop in
     let a = c .before .before .before .before .before .before .args in
     let e : l .i ≡ min (getD (now (a .road)) 0 0) 64 = omega (arith, c .before .before .before .before .segments .ensures, l .inv .1) in
-    l .inv .0 ∙ ap (λ (n : ℕ). all-below (test (now (a .road)) (now (a .row))) (3 + 2 * n)) e
+    l .inv .0 ∙ ap (λ (n : ℕ). all-below (test (now (a .road)) (now (a .row))) (3 + 3 * n)) e
 
 pub is-period-spec : {M : Type 1} → statement M
 is-period-spec =
@@ -72,7 +73,7 @@ is-period-spec =
     element-copy-out-is-opening
     is-opening-requires
     loop-holds
-    is-ramp-requires
+    is-entry-requires
     add-i
     loop-less
     loop-again

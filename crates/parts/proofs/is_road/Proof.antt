@@ -8,7 +8,7 @@ use lib.ListN.{getD}
 use denote.Ref.{now}
 use Rattle.sheets.specs.Layout.{roadRange, rangeOf, countOf}
 use Rattle.parts.specs.Allowed.{within, all-below, allowed, roadAllowed}
-use Rattle.parts.proofs.Groups.{ofSegment, group-more, segment-place}
+use Rattle.parts.proofs.Groups.{ofSegment, group-more, segment-range-at}
 use Rattle.parts.proofs.is_road.Statement.{statement}
 use Rattle.parts.proofs.is_road.Tie as tie
 
@@ -48,7 +48,7 @@ loop-again : tie.Need-loop-again Inv-loop μ-loop
 loop-again c =
     let l = c .before .before .loop in
     let row = now (c .before .before .before .before .before .before .args .row) in
-    (group-more roadRange ofSegment row 4 7 (l .i) _ _ (l .inv .0) (c .is-segment .ensures) (segment-place (l .i)), omega arith)
+    (group-more roadRange ofSegment row 4 7 (l .i) _ _ (l .inv .0) (c .is-segment .ensures) (segment-range-at (l .i)), omega arith)
 
 returns : tie.Need-returns Inv-loop μ-loop
 unfolding roadAllowed allowed rangeOf countOf

@@ -36,7 +36,7 @@ returns c = ap (λ (m : ℕ). 4 + 7 * m) (c .segments .ensures) ∙ sym (ap coun
 
 returns-2 : tie.Need-returns-2
 unfolding countOf
-returns-2 c = ap (λ (m : ℕ). 3 + 2 * m) (c .segments2 .ensures) ∙ sym (ap countOf (c .before .before .layout2 .given .1))
+returns-2 c = ap (λ (m : ℕ). 3 + 3 * m) (c .segments2 .ensures) ∙ sym (ap countOf (c .before .before .layout2 .given .1))
 
 pub count-spec : {M : Type 1} → statement M
 count-spec =

@@ -1,6 +1,7 @@
 -- The range of a place, by the layout.
 use mathlib.Core.Path.{sym, ap, _∙_}
 use Rattle.sheets.specs.Layout.{rangeOf}
+use denote.Ref.{now}
 use borrow.Author.Needs.{needs}
 use Rattle.sheets.proofs.range_at.Statement.{statement}
 use Rattle.sheets.proofs.range_at.Tie as tie
@@ -19,11 +20,11 @@ period-range-requires c κs = search needs
 
 returns : tie.Need-returns
 unfolding rangeOf
-returns c = c .road-range .ensures ∙ sym (ap (λ (l : _). rangeOf l (c .before .before .before .args .k)) (c .before .enum-told .given .1))
+returns c = c .road-range .ensures ∙ sym (ap (λ (l : _). rangeOf l (now (c .before .before .before .args .road)) (c .before .before .before .args .k)) (c .before .enum-told .given .1))
 
 returns-2 : tie.Need-returns-2
 unfolding rangeOf
-returns-2 c = c .period-range .ensures ∙ sym (ap (λ (l : _). rangeOf l (c .before .before .before .before .args .k)) (c .before .before .layout .given .1))
+returns-2 c = c .period-range .ensures ∙ sym (ap (λ (l : _). rangeOf l (now (c .before .before .before .before .args .road)) (c .before .before .before .before .args .k)) (c .before .before .layout .given .1))
 
 pub range-at-spec : {M : Type 1} → statement M
 range-at-spec =

@@ -8,7 +8,7 @@ use native.Mathlib.Omega.{arith}
 use Rattle.sheets.specs.Layout.{roadRange}
 use Rattle.sheets.specs.Read.{sheetReading}
 use Rattle.sheets.proofs.Ranges.{road-first}
-use Rattle.sheets.proofs.Turns.{road-read, road-refused}
+use Rattle.sheets.proofs.Turns.{road-alone, road-read, road-refused}
 use borrow.Author.Needs.{needs}
 use Rattle.sheets.proofs.read_road.Statement.{statement}
 use Rattle.sheets.proofs.read_road.Tie as tie
@@ -36,8 +36,9 @@ enum-known-got-2 c = search needs
 
 returns : tie.Need-returns
 returns c =
-    let f = c .before .before .before .before in
-    c .read-row .ensures ∙ sym (ap sheetReading (road-read _ _ _ (sym (field f) ∙ ap reading (c .before .before .got .given .1))))
+    let f = c .before .before .before .before .before in
+    let same = ap reading (c .before .before .before .got .given .1) in
+    c .read-row .ensures ∙ ap sheetReading (road-alone _ _ _ ∙ sym (road-read _ _ _ (sym (field f) ∙ same)))
 
 returns-2 : tie.Need-returns-2
 returns-2 c = sym (road-refused _ _ (sym (field (c .before .before .before)) ∙ ap reading (c .before .got2 .given .1)))

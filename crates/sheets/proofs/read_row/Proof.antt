@@ -16,17 +16,17 @@ use Rattle.sheets.proofs.read_row.Statement.{statement}
 use Rattle.sheets.proofs.read_row.Tie as tie
 
 abbrev Inv-loop : tie.InvT-loop
-Inv-loop bytes layout n row₀ k₀ at₀ row k at = Turn (fieldOf layout bytes) 0 n 452 row k at
+Inv-loop bytes layout road n row₀ k₀ at₀ row k at = Turn (fieldOf layout road bytes) 0 n 452 row k at
 
 abbrev μ-loop : tie.MeasureT-loop
-μ-loop bytes layout n row₀ k₀ at₀ row k at = n - k
+μ-loop bytes layout road n row₀ k₀ at₀ row k at = n - k
 
 -- the field that a turn reads
 abbrev L : tie.After-read-field Inv-loop μ-loop → tie.At-loop Inv-loop μ-loop
 L c = c .before .before .before
 
 field : (c : tie.After-read-field Inv-loop μ-loop) → reading (c .read-field .result)
-    ≡ readField (rangeOf (L c .before .before .before .args .layout) (L c .loop .k)) (now (L c .before .before .before .args .bytes)) (L c .loop .at)
+    ≡ readField (rangeOf (L c .before .before .before .args .layout) (now (L c .before .before .before .args .road)) (L c .loop .k)) (now (L c .before .before .before .args .bytes)) (L c .loop .at)
 field c =
     let range = c .before .range-at .ensures in
     c .read-field .ensures ∙ ap (λ (r : Range). readField r (now (L c .before .before .before .args .bytes)) (L c .loop .at)) range
@@ -41,7 +41,7 @@ loop-holds : tie.Need-loop-holds Inv-loop μ-loop
 loop-holds c = turn-start _ 0 _ 452
 
 range-at-requires : tie.Need-range-at-requires Inv-loop μ-loop
-range-at-requires c κs = search needs
+range-at-requires c κs = omega (arith, most (c .before .before))
 
 read-field-requires : tie.Need-read-field-requires Inv-loop μ-loop
 read-field-requires c κs = search needs
@@ -66,7 +66,7 @@ loop-again c =
     let f = c .before .before .before in
     let t = f .before .before in
     let got = sym (field f) ∙ ap reading (c .before .got .given .1) in
-    turn-again _ _ _ _ _ _ (t .before .before .count .ensures) (t .before .loop .inv) _ _ (t .loop-test .taken) got
+    turn-again _ _ _ _ _ _ _ (t .before .before .count .ensures) (t .before .loop .inv) _ _ (t .loop-test .taken) got
 
 enum-known-got-2 : tie.Need-enum-known-got-2 Inv-loop μ-loop
 enum-known-got-2 c = search needs
@@ -77,10 +77,10 @@ returns c =
     let f = c .before .before .before in
     let t = f .before .before in
     let got = sym (field f) ∙ ap reading (c .before .got2 .given .1) in
-    sym (ap sheetReading (row-refused _ _ _ _ _ _ (t .before .before .count .ensures) (t .before .loop .inv) _ (t .loop-test .taken) got))
+    sym (ap sheetReading (row-refused _ _ _ _ _ _ _ (t .before .before .count .ensures) (t .before .loop .inv) _ (t .loop-test .taken) got))
 
 returns-2 : tie.Need-returns-2 Inv-loop μ-loop
-returns-2 c = sym (row-read _ _ _ _ _ _ (c .before .before .count .ensures) (c .before .loop .inv) (c .loop-test .left))
+returns-2 c = sym (row-read _ _ _ _ _ _ _ (c .before .before .count .ensures) (c .before .loop .inv) (c .loop-test .left))
 
 pub read-row-spec : {M : Type 1} → statement M
 read-row-spec =

@@ -1,15 +1,15 @@
 -- Record by record.
-use mathlib.Core.Path.{_≡_, refl}
+use mathlib.Core.Path.{_≡_}
 use lib.ListN.{length}
 use borrow.Author.Needs.{needs}
 use Rattle.steps_check.proofs.main.Statement.{statement}
 use Rattle.steps_check.proofs.main.Tie as tie
 
 abbrev Inv-loop : tie.InvT-loop
-Inv-loop chunk₀ line₀ next₀ turns₀ chunk line next turns = (4096 ≡ length chunk) × (98304 ≡ length line)
+Inv-loop chunk₀ line₀ next₀ f₀ turns₀ chunk line next f turns = (4096 ≡ length chunk) × (98304 ≡ length line)
 
 abbrev μ-loop : tie.MeasureT-loop
-μ-loop chunk₀ line₀ next₀ turns₀ chunk line next turns = turns
+μ-loop chunk₀ line₀ next₀ f₀ turns₀ chunk line next f turns = turns
 
 buffer-requires : tie.Need-buffer-requires Inv-loop μ-loop
 buffer-requires c κs = search needs
@@ -29,17 +29,20 @@ slice-aggregate-next-2 c = search needs
 next-requires : tie.Need-next-requires Inv-loop μ-loop
 next-requires c κs = search needs
 
+fresh-on-requires : tie.Need-fresh-on-requires Inv-loop μ-loop
+fresh-on-requires c κs = search needs
+
 loop-holds : tie.Need-loop-holds Inv-loop μ-loop
 loop-holds c = search needs
+
+returns : tie.Need-returns Inv-loop μ-loop
+returns c = search needs
 
 slice-aggregate-play-line : tie.Need-slice-aggregate-play-line Inv-loop μ-loop
 slice-aggregate-play-line c = search needs
 
 play-line-requires : tie.Need-play-line-requires Inv-loop μ-loop
 play-line-requires c κs = search needs
-
-returns : tie.Need-returns Inv-loop μ-loop
-returns c = search needs
 
 slice-aggregate-next-3 : tie.Need-slice-aggregate-next-3 Inv-loop μ-loop
 slice-aggregate-next-3 c = search needs
@@ -74,10 +77,11 @@ main-spec =
     slice-aggregate-next
     slice-aggregate-next-2
     next-requires
+    fresh-on-requires
     loop-holds
+    returns
     slice-aggregate-play-line
     play-line-requires
-    returns
     slice-aggregate-next-3
     slice-aggregate-next-4
     next-requires-2

@@ -1,70 +1,59 @@
--- The segments in turn, below NS.
+-- The segments in turn, at most 64.
 use Prim.Native.Nat.{_≤_, _-_}
-use native.Mathlib.Omega.{arith}
 use borrow.Author.Needs.{needs}
 use Rattle.steps_check.proofs.say_cells.Statement.{statement}
 use Rattle.steps_check.proofs.say_cells.Tie as tie
 
 abbrev Inv-loop : tie.InvT-loop
-Inv-loop road state ns i₀ i =
-    (i ≤ ns) × (ns ≤ 64)
+Inv-loop road period state ns i₀ i = (i ≤ ns) × (ns ≤ 64)
 
 abbrev μ-loop : tie.MeasureT-loop
-μ-loop road state ns i₀ i = ns - i
+μ-loop road period state ns i₀ i = ns - i
 
-globals-of-road-requires : tie.Need-globals-of-road-requires Inv-loop μ-loop
-globals-of-road-requires c κs = search needs
+array-read-segments : tie.Need-array-read-segments Inv-loop μ-loop
+array-read-segments c = search needs
 
-cast-ns : tie.Need-cast-ns Inv-loop μ-loop
-cast-ns c = omega (arith, c .struct-known)
+segments-requires : tie.Need-segments-requires Inv-loop μ-loop
+segments-requires c κs = search needs
 
 loop-holds : tie.Need-loop-holds Inv-loop μ-loop
-loop-holds c = let e : c .before .globals-of-road .result .segments ≤ 64 = rw (c .before .globals-of-road .ensures) (c .before .before .pre) in (omega arith, e)
+loop-holds c = search needs
 
 mul-cell : tie.Need-mul-cell Inv-loop μ-loop
-mul-cell c = omega (arith, c .before .loop .inv)
+mul-cell c = search needs
 
 element-copy-out-cell : tie.Need-element-copy-out-cell Inv-loop μ-loop
-element-copy-out-cell c = omega (arith, c .before .loop .inv)
+element-copy-out-cell c = search needs
 
-mul-k : tie.Need-mul-k Inv-loop μ-loop
-mul-k c = omega (arith, c .before .before .loop .inv)
+cast-segment-at : tie.Need-cast-segment-at Inv-loop μ-loop
+cast-segment-at c = search needs
 
-add-k : tie.Need-add-k Inv-loop μ-loop
-add-k c = omega (arith, c .before .before .loop .inv)
+segment-at-requires : tie.Need-segment-at-requires Inv-loop μ-loop
+segment-at-requires c κs = search needs
 
-mul-level-of : tie.Need-mul-level-of Inv-loop μ-loop
-mul-level-of c = omega (arith, c .before .before .loop .inv)
+cast-entry-at : tie.Need-cast-entry-at Inv-loop μ-loop
+cast-entry-at c = search needs
 
-element-copy-out-level-of : tie.Need-element-copy-out-level-of Inv-loop μ-loop
-element-copy-out-level-of c = omega (arith, c .before .before .loop .inv)
-
-add-level-of : tie.Need-add-level-of Inv-loop μ-loop
-add-level-of c = omega (arith, c .before .before .before .loop .inv)
-
-mul-level-of-2 : tie.Need-mul-level-of-2 Inv-loop μ-loop
-mul-level-of-2 c = omega (arith, c .before .before .before .loop .inv)
-
-element-copy-out-level-of-2 : tie.Need-element-copy-out-level-of-2 Inv-loop μ-loop
-element-copy-out-level-of-2 c = omega (arith, c .before .before .before .loop .inv)
+entry-at-requires : tie.Need-entry-at-requires Inv-loop μ-loop
+entry-at-requires c κs = search needs
 
 level-of-requires : tie.Need-level-of-requires Inv-loop μ-loop
 level-of-requires c κs = search needs
 
 add-say-cell : tie.Need-add-say-cell Inv-loop μ-loop
-add-say-cell c = omega (arith, c .before .before .before .before .before .loop .inv)
+add-say-cell c = search needs
 
 say-cell-requires : tie.Need-say-cell-requires Inv-loop μ-loop
 say-cell-requires c κs = search needs
 
 add-i : tie.Need-add-i Inv-loop μ-loop
-add-i c = omega (arith, c .before .before .before .before .before .before .loop .inv)
+add-i c = search needs
 
 loop-less : tie.Need-loop-less Inv-loop μ-loop
-loop-less c = omega (arith, c .before .before .before .before .before .before .loop .inv)
+loop-less c = search needs
 
 loop-again : tie.Need-loop-again Inv-loop μ-loop
-loop-again c = (omega arith, c .before .before .before .before .before .before .loop .inv .1)
+loop-again c = search needs
 
 returns : tie.Need-returns Inv-loop μ-loop
 returns c = search needs
@@ -75,18 +64,15 @@ say-cells-spec =
     (tie.spec
     Inv-loop
     μ-loop
-    globals-of-road-requires
-    cast-ns
+    array-read-segments
+    segments-requires
     loop-holds
     mul-cell
     element-copy-out-cell
-    mul-k
-    add-k
-    mul-level-of
-    element-copy-out-level-of
-    add-level-of
-    mul-level-of-2
-    element-copy-out-level-of-2
+    cast-segment-at
+    segment-at-requires
+    cast-entry-at
+    entry-at-requires
     level-of-requires
     add-say-cell
     say-cell-requires

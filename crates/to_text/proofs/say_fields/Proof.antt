@@ -5,10 +5,10 @@ use Rattle.to_text.proofs.say_fields.Statement.{statement}
 use Rattle.to_text.proofs.say_fields.Tie as tie
 
 abbrev Inv-loop : tie.InvT-loop
-Inv-loop output bytes stop f₀ i₀ f i = i ≤ 13028
+Inv-loop output bytes stop f₀ i₀ f i = i ≤ 19172
 
 abbrev μ-loop : tie.MeasureT-loop
-μ-loop output bytes stop f₀ i₀ f i = 13028 - i
+μ-loop output bytes stop f₀ i₀ f i = 19172 - i
 
 say-sheet-requires : tie.Need-say-sheet-requires Inv-loop μ-loop
 say-sheet-requires c κs = search needs

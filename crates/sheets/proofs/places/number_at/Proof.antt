@@ -3,8 +3,8 @@ use mathlib.Core.Path.{sym}
 use denote.Ref.{now}
 use lib.ListN.{List·getD-eq-default}
 use borrow.Author.Needs.{needs}
-use Rattle.parts.proofs.number_at.Statement.{statement}
-use Rattle.parts.proofs.number_at.Tie as tie
+use Rattle.sheets.proofs.places.number_at.Statement.{statement}
+use Rattle.sheets.proofs.places.number_at.Tie as tie
 
 mul-result : tie.Need-mul-result
 mul-result c = search needs
