@@ -13,50 +13,64 @@ use Rattle.sheets.specs.declared.Layout.{Layout}
 use Rattle.sheets.specs.declared.Layout.the-variants.{Road, Period}
 use Rattle.sheets.specs.Layout.{_to_, noRange, segmentTable, roadTable, roadRange, sameSegments, entryTable, lanesOf, periodRange, rangeOf, countOf}
 
--- its refusal has a number; its numbers have at most 32 bits
-abbrev HasNumber : Range → Type 0
-HasNumber r = 1 ≤ r .refusal
-
+-- its numbers have at most 32 bits, and its refusal has a number
 abbrev Fits : Range → Type 0
 Fits r = r .high < 2 ^ 32
+
+abbrev HasNumber : Range → Type 0
+HasNumber r = 1 ≤ r .refusal
 
 abbrev AllOf : (Range → Type 0) → List Range → Type 0
 AllOf P [] = Unit {0}
 AllOf P (r ∷ rs) = P r × AllOf P rs
 
+-- what holds of each range of the tables holds of the range of a place
 module _ (P : Range → Type 0) where
   entry : (rs : List Range) (k : ℕ) → AllOf P rs → k < length rs → P (getD rs k noRange)
   entry [] k e h = absurd (omega arith)
   entry (r ∷ rs) zero e h = e .0
   entry (r ∷ rs) (suc k) e h = entry rs k (e .1) (omega arith)
 
-  either : (t : Bool) (a b : Range) → (t ≡ true → P a) → P b → P (if t then a else b)
+  either : (t : Bool) (a b : Range) → (t ≡ true → P a) → (t ≡ false → P b) → P (if t then a else b)
   either true a b p q = p refl
-  either false a b p q = q
+  either false a b p q = q refl
 
   in-road : AllOf P roadTable → AllOf P segmentTable → (k : ℕ) → P (roadRange k)
   unfolding roadRange
   in-road a b k =
       either (ltb k 4) (getD roadTable k noRange) (getD segmentTable ((k - 4) % 7) noRange)
-      (λ t. entry roadTable k a (ltb-true _ _ t)) (entry segmentTable ((k - 4) % 7) b (omega arith))
+      (λ t. entry roadTable k a (ltb-true _ _ t)) (λ t. entry segmentTable ((k - 4) % 7) b (omega arith))
 
--- a road's numbers have at most 32 bits
-pub road-fits : (k : ℕ) → roadRange k .high < 2 ^ 32
-road-fits =
-    in-road Fits (omega arith, (omega arith, (omega arith, (omega arith, tt))))
+  in-period : (ns : ℕ) (road : List ℕ) (k : ℕ) → P (sameSegments ns) → P (0 to 20000)
+      → (3 ≤ k → AllOf P (entryTable (lanesOf road ((k - 3) / 3)))) → P (periodRange ns road k)
+  unfolding periodRange
+  in-period ns road k a b c =
+      let table = entryTable (lanesOf road ((k - 3) / 3)) in
+      either (eqb k 0) (sameSegments ns) (if ltb k 3 then 0 to 20000 else getD table ((k - 3) % 3) noRange) (λ t. a)
+      (λ t. either (ltb k 3) (0 to 20000) (getD table ((k - 3) % 3) noRange) (λ u. b)
+      (λ u. entry table ((k - 3) % 3) (c (ltb-false k 3 u)) (omega arith)))
+
+road-usable : (k : ℕ) → Fits (roadRange k) × HasNumber (roadRange k)
+road-usable =
+    in-road (λ r. Fits r × HasNumber r) (omega arith, (omega arith, (omega arith, (omega arith, tt))))
     (omega arith, (omega arith, (omega arith, (omega arith, (omega arith, (omega arith, (omega arith, tt)))))))
+
+-- a road's numbers have at most 32 bits; a period's have, where its road's lanes have
+pub road-fits : (k : ℕ) → roadRange k .high < 2 ^ 32
+road-fits k = road-usable k .0
+
+pub period-fits : (ns : ℕ) (road : List ℕ) → ((i : ℕ) → i < min ns 64 → lanesOf road i < 2 ^ 32)
+    → (k : ℕ) → k < countOf (Period ns) → periodRange ns road k .high < 2 ^ 32
+unfolding countOf
+period-fits ns road lanes k h =
+    in-period Fits ns road k (omega arith) (omega arith) (λ l. (omega arith, (omega arith, (lanes ((k - 3) / 3) (omega arith), tt))))
 
 -- every refusal has a number
 pub named : (l : Layout) (road : List ℕ) (k : ℕ) → 1 ≤ rangeOf l road k .refusal
-unfolding rangeOf periodRange
-named (Road ns) road k =
-    in-road HasNumber (omega arith, (omega arith, (omega arith, (omega arith, tt))))
-    (omega arith, (omega arith, (omega arith, (omega arith, (omega arith, (omega arith, (omega arith, tt))))))) k
+unfolding rangeOf
+named (Road ns) road k = road-usable k .1
 named (Period ns) road k =
-    let table = entryTable (lanesOf road ((k - 3) / 3)) in
-    either HasNumber (eqb k 0) (sameSegments ns) (if ltb k 3 then 0 to 20000 else getD table ((k - 3) % 3) noRange) (λ t. omega arith)
-    (either HasNumber (ltb k 3) (0 to 20000) (getD table ((k - 3) % 3) noRange) (λ t. omega arith)
-    (entry HasNumber table ((k - 3) % 3) (omega arith, (omega arith, (omega arith, tt))) (omega arith)))
+    in-period HasNumber ns road k (omega arith) (omega arith) (λ l. (omega arith, (omega arith, (omega arith, tt))))
 
 -- a layout has some numbers, and no more than a row
 pub count-some : (l : Layout) → 0 < countOf l
@@ -106,20 +120,3 @@ entry-open n zero l h = absurd (omega arith)
 entry-open n (suc zero) l h = absurd (omega arith)
 entry-open n (suc (suc zero)) l h = refl
 entry-open n (suc (suc (suc j))) l h = absurd (omega arith)
-
--- a period's have, where its road's lanes have
-pub period-fits : (ns : ℕ) (road : List ℕ) → ((i : ℕ) → i < min ns 64 → lanesOf road i < 2 ^ 32)
-    → (k : ℕ) → k < countOf (Period ns) → periodRange ns road k .high < 2 ^ 32
-unfolding periodRange countOf
-period-fits ns road lanes k h =
-    let table = entryTable (lanesOf road ((k - 3) / 3)) in
-    either Fits (eqb k 0) (sameSegments ns) (if ltb k 3 then 0 to 20000 else getD table ((k - 3) % 3) noRange) (λ t. omega arith)
-    (by-flow (ltb k 3) refl)
-  where
-    by-flow : (t : Bool) → ltb k 3 ≡ t
-        → (if t then 0 to 20000 else getD (entryTable (lanesOf road ((k - 3) / 3))) ((k - 3) % 3) noRange) .high < 2 ^ 32
-    by-flow true e = omega arith
-    by-flow false e =
-        let later = ltb-false k 3 e in
-        entry Fits (entryTable (lanesOf road ((k - 3) / 3))) ((k - 3) % 3)
-        (omega arith, (omega arith, (lanes ((k - 3) / 3) (omega arith), tt))) (omega arith)

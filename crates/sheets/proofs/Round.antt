@@ -1,5 +1,6 @@
 -- A sheet written and read again is the same sheet, with the written count used, wherever it stands in a buffer; one read and written
--- again is the bytes that its reading used. Once for every layout; a road's layout is known by its first number.
+-- again is the bytes that its reading used. Once for every layout; a road's layout is known by its first number. A number of more than
+-- 32 bits has no bytes, so a period is written and read on a road whose lanes have no more.
 use mathlib.Core.Path.{_≡_, refl, sym, ap, _∙_}
 use Prim.Native.Nat.{ℕ, zero, suc, _+_, _-_, _^_, _≤_, _<_, min}
 use mathlib.Core.List.{List, [], _∷_, _++_, append-assoc}
