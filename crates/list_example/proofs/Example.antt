@@ -81,9 +81,9 @@ saidFilled =
     ∷ Reported (record { n = 18397; q = 0; main = 0; ramp = 0; off = 0; out = 2200 }) F
     ∷ []
 
--- the letter goes by the open lanes from the moment their sheet is taken
+-- the letter goes by the open lanes from the moment their sheet is taken, and still when it is run out
 abbrev lettered : List Call
-lettered = Report 1 ∷ Take (sheet 2) ∷ Run 60 ∷ Report 1 ∷ Take (sheet 1) ∷ Report 1 ∷ []
+lettered = Report 1 ∷ Take (sheet 2) ∷ Run 60 ∷ Report 1 ∷ Take (sheet 1) ∷ Report 1 ∷ Run 60 ∷ Report 1 ∷ []
 
 abbrev saidLettered : List Answer
 saidLettered =
@@ -93,6 +93,8 @@ saidLettered =
     ∷ Reported (record { n = 4092; q = 0; main = 4092; ramp = 0; off = 0; out = 4092 }) D
     ∷ Taken 8
     ∷ Reported (record { n = 4092; q = 0; main = 4092; ramp = 0; off = 0; out = 4092 }) F
+    ∷ Ran
+    ∷ Reported (record { n = 2046; q = 0; main = 2046; ramp = 0; off = 0; out = 2046 }) D
     ∷ []
 
 computed :

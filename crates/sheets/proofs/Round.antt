@@ -49,7 +49,7 @@ reads-fields l road (v ∷ row) k before rest h =
     let f = value-reads l road k v before (rowBytes row ++ rest) (each-head (Writable l road) k v row h) in
     let more = reads-fields l road row (k + 1) (before ++ numberBytes v) rest (each-tail (Writable l road) k v row h) in
     let ih = simp (append-assoc, length-append, add-assoc) at more in
-    simp (append-assoc, length-append, add-assoc) (rw (f, ih))
+    simp (append-assoc, length-append) (rw (f, ih))
 
 written-row : (l : Layout) (road row rest : List ℕ) → RowOf l road row → Fitting row
     → readRow l road (rowBytes row ++ rest) ≡ ReadRow row (length (rowBytes row))
