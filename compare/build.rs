@@ -5,7 +5,7 @@ use std::path::Path;
 fn main() {
     let folder = Path::new(env!("CARGO_MANIFEST_DIR")).join("../target/staticlib");
     println!("cargo::rustc-link-search=native={}", folder.display());
-    for name in ["study", "timing"] {
+    for name in ["study", "convert", "timing"] {
         let library = folder.join(format!("lib{name}.a"));
         println!("cargo::rerun-if-changed={}", library.display());
         if !library.exists() {

@@ -1,4 +1,7 @@
-/* The freeway queue forecast engine, for programs in C. Link with target/staticlib/libstudy.a. */
+/*
+ * The freeway queue forecast engine, for programs in C. Link with target/staticlib/libstudy.a for the forecast, and with
+ * target/staticlib/libconvert.a for the conversions.
+ */
 
 #ifndef FREEWAY_FORECAST_H
 #define FREEWAY_FORECAST_H
@@ -40,6 +43,28 @@ enum {
  * `study` and `out` must not overlap. Nothing is allocated, and nothing is kept between calls.
  */
 uint64_t freeway_forecast(const uint8_t *study, size_t study_len, uint64_t *out, size_t out_len);
+
+/* How many bytes the longest study takes in each layout: 64 segments, 96 periods. */
+#define FREEWAY_LONGEST_FIRST 26149
+#define FREEWAY_LONGEST_SECOND 32293
+
+/*
+ * Converts a study from the first layout, whose period sheets have two numbers for each segment (ramp demand, meter rate),
+ * to the second, with every lane open. Its forecast is then that of the first rules. Nothing in the bytes tells the layout.
+ *
+ * Gives the refusal's number, 0 for none. `*count` gets the bytes written from the start of `target`, or the refusal's
+ * place in the study, in bytes from its start. Bytes of `target` past the count keep their contents, and after a refusal
+ * all do. Where the study converts but `target_len` is below its new length it gives 7, with place 0.
+ *
+ * `study`, `target` and `count` must not overlap. Nothing is allocated, and nothing is kept between calls.
+ */
+uint64_t freeway_to_second(const uint8_t *study, size_t study_len, uint8_t *target, size_t target_len, uint64_t *count);
+
+/*
+ * The same from the second layout to the first. Where a lane is closed it gives 16, with the place of the first open-lane
+ * number that is below its segment's lanes.
+ */
+uint64_t freeway_to_first(const uint8_t *study, size_t study_len, uint8_t *target, size_t target_len, uint64_t *count);
 
 #ifdef __cplusplus
 }

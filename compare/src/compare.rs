@@ -1,9 +1,11 @@
 //! The comparison: many random studies, each given to the engine, to the model, to the idiomatic and to the tuned version.
 
+pub mod conversions;
+
 use crate::model::facility::Facility;
 use crate::model::sheets::Refusal;
 use crate::outcome::Outcome;
-use crate::random::{self, Random};
+use crate::random::{self, Layout, Random};
 use crate::{engine, idiomatic, model, tuned};
 use std::collections::BTreeMap;
 use std::time::{Duration, Instant};
@@ -49,53 +51,78 @@ impl Tally {
         println!("  {} with a segment whose open lanes have no capacity", self.no_capacity);
         let letters = self.letters.iter().map(|(&letter, count)| format!("{} {count}", char::from(letter)));
         println!("  segments by letter: {}", letters.collect::<Vec<_>>().join(", "));
-        for (number, count) in &self.refused {
-            println!("refused {number:>2}   {count:>7}");
-        }
+        print_refused(&self.refused);
     }
 }
 
-/// Compares `count` studies; true where all were equal.
+fn print_refused(refused: &BTreeMap<u64, u64>) {
+    for (number, count) in refused {
+        println!("refused {number:>2}   {count:>7}");
+    }
+}
+
+/// Compares the forecasts of `count` studies; true where all were equal.
 pub fn run(seed: u64, count: u64) -> bool {
     println!("comparing {count} random studies, seed {seed}");
     let mut tally = Tally::default();
+    let layout = |_| Layout::OFTEN_CLOSED;
+    let equal = each(seed, count, layout, |made, study| {
+        let run = model::run(study);
+        same(study, &model::outcome(&run))?;
+        engine::refuses_short_buffer(study, (made % 200) as usize)?;
+        tally.add(&run);
+        Ok(())
+    });
+    if equal {
+        tally.print();
+        println!("all {count} studies equal, number by number");
+    }
+    equal
+}
+
+/// Makes `count` random studies, each in the layout that its place has, and has them compared; true where none differs.
+fn each(
+    seed: u64,
+    count: u64,
+    layout: impl Fn(u64) -> Layout,
+    mut compared: impl FnMut(u64, &[u8]) -> Result<(), String>,
+) -> bool {
     let mut shown = Instant::now();
     let mut seeds = Random::new(seed);
     for made in 0..count {
-        let study = random::study(seeds.within(0, u64::MAX - 1));
-        let run = model::run(&study);
-        let expected = model::outcome(&run);
-        let places = (made % 200) as usize;
-        if let Err(difference) = same(&study, &expected).and_then(|()| engine::refuses_short_buffer(&study, places)) {
-            println!("study {} differs: {difference}", made + 1);
-            println!("its bytes: {}", hex(&study));
-            println!("the model says:\n{}", expected.listing());
+        let study = random::study(seeds.within(0, u64::MAX - 1), layout(made));
+        if let Err(difference) = compared(made, &study) {
+            println!("study {} differs, its bytes: {}", made + 1, hex(&study));
+            println!("{difference}");
             return false;
         }
-        tally.add(&run);
         if shown.elapsed() > Duration::from_secs(5) {
             println!("  {} studies, all equal so far", made + 1);
             shown = Instant::now();
         }
     }
-    tally.print();
-    println!("all {count} studies equal, number by number");
     true
 }
 
 /// Holds the engine, the idiomatic and the tuned version against what is expected of a study.
 pub fn same(study: &[u8], expected: &Outcome) -> Result<(), String> {
-    let ours = expected.numbers();
-    let theirs = engine::numbers(study)?;
-    if let Some(at) = (0..ours.len()).find(|&at| ours[at] != theirs[at]) {
-        return Err(format!("out[{at}] should be {} and the engine gives {}", ours[at], theirs[at]));
-    }
+    engine_gives(study, expected)?;
     for (name, other) in [("idiomatic", idiomatic::forecast(study)), ("tuned", tuned::forecast(study))] {
         if other != *expected {
-            return Err(format!("the {name} version, not the engine, says:\n{}", other.listing()));
+            let (other, ours) = (other.listing(), expected.listing());
+            return Err(format!("the {name} version, not the engine, says:\n{other}the model says:\n{ours}"));
         }
     }
     Ok(())
+}
+
+/// Holds the engine alone against it, all its numbers.
+fn engine_gives(study: &[u8], expected: &Outcome) -> Result<(), String> {
+    let ours = expected.numbers();
+    let theirs = engine::numbers(study)?;
+    let Some(at) = (0..ours.len()).find(|&at| ours[at] != theirs[at]) else { return Ok(()) };
+    let listing = expected.listing();
+    Err(format!("out[{at}] should be {} and the engine gives {}; the model says:\n{listing}", ours[at], theirs[at]))
 }
 
 fn hex(bytes: &[u8]) -> String {

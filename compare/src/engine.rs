@@ -1,9 +1,13 @@
 //! The engine, through its static libraries.
 
+use crate::model::convert::Way;
+use crate::model::sheets::Refusal;
 use crate::outcome::NUMBERS;
 
 extern "C" {
     fn freeway_forecast(study: *const u8, study_len: usize, out: *mut u64, out_len: usize) -> u64;
+    fn freeway_to_second(study: *const u8, len: usize, target: *mut u8, target_len: usize, count: *mut u64) -> u64;
+    fn freeway_to_first(study: *const u8, len: usize, target: *mut u8, target_len: usize, count: *mut u64) -> u64;
     fn freeway_time_reports(road: *const u8, road_len: usize, period: *const u8, period_len: usize, times: u32) -> u64;
     fn freeway_time_steps(road: *const u8, road_len: usize, period: *const u8, period_len: usize, periods: u32) -> u64;
 }
@@ -54,4 +58,35 @@ pub fn refuses_short_buffer(study: &[u8], places: usize) -> Result<(), String> {
         return Err(format!("a buffer of {places} places was refused but written to"));
     }
     Ok(())
+}
+
+/// Converts a study into a target: gives the refusal's number, 0 for none, and the count.
+fn converted(way: Way, study: &[u8], target: &mut [u8]) -> (u64, u64) {
+    let mut count = UNTOUCHED;
+    let (from, to) = ((study.as_ptr(), study.len()), (target.as_mut_ptr(), target.len()));
+    // Sound: both slices are valid for their lengths, the count for its writing, and the engine keeps none of them.
+    let number = unsafe {
+        match way {
+            Way::ToSecond => freeway_to_second(from.0, from.1, to.0, to.1, &mut count),
+            Way::ToFirst => freeway_to_first(from.0, from.1, to.0, to.1, &mut count),
+        }
+    };
+    (number, count)
+}
+
+/// What a target of `room` bytes gets for a study, or the refusal; or what in the call itself broke the interface's promises.
+pub fn convert(way: Way, study: &[u8], room: usize) -> Result<Result<Vec<u8>, Refusal>, String> {
+    let untouched = UNTOUCHED as u8;
+    let mut target = vec![untouched; room + 3];
+    let (number, count) = converted(way, study, &mut target[..room]);
+    let count = count as usize;
+    let written = if number == 0 { count } else { 0 };
+    if written > room {
+        return Err(format!("the engine counts {count} bytes written to a target of {room}"));
+    }
+    if target[written..].iter().any(|&byte| byte != untouched) {
+        return Err(format!("of a target of {room} bytes the engine altered more than the {written} that it tells"));
+    }
+    target.truncate(written);
+    Ok(if number == 0 { Ok(target) } else { Err(Refusal { number, offset: count }) })
 }

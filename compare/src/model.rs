@@ -1,21 +1,24 @@
-//! A model of documents 01 and 02 (Q-1, closed lanes), written from the documents alone and for reading, not for speed.
+//! A model of documents 01 and 02 (Q-1, closed lanes; Q-2, conversion), written from the documents alone and for reading, not for
+//! speed.
 
+pub mod convert;
 pub mod facility;
+pub mod first;
 pub mod numbers;
 pub mod sheets;
 pub mod step;
 
 use crate::outcome::{Forecast, Outcome, Standing};
 use facility::Facility;
-use sheets::Refusal;
+use sheets::{Entry, Layout, Refusal};
 
 /// A whole study file, as the program `forecast` treats it.
 pub fn forecast(study: &[u8]) -> Outcome {
-    outcome(&run(study))
+    outcome(&run::<Entry>(study))
 }
 
 /// What a study that was run comes to.
-pub fn outcome(run: &Result<Facility, Refusal>) -> Outcome {
+pub fn outcome<E: Layout>(run: &Result<Facility<E>, Refusal>) -> Outcome {
     match run {
         Ok(facility) => Outcome::Forecast(forecast_of(facility)),
         Err(Refusal { number, offset }) => Outcome::Refused { number: *number, place: *offset as u64 },
@@ -23,8 +26,8 @@ pub fn outcome(run: &Result<Facility, Refusal>) -> Outcome {
 }
 
 /// Lays the road, then takes and runs periods to the end of the file. A refusal's offset counts from the file's start.
-pub fn run(study: &[u8]) -> Result<Facility, Refusal> {
-    let (mut facility, mut start) = Facility::lay(study)?;
+pub fn run<E: Layout>(study: &[u8]) -> Result<Facility<E>, Refusal> {
+    let (mut facility, mut start) = Facility::<E>::lay(study)?;
     while start < study.len() {
         let used = facility.take(&study[start..]).map_err(|refusal| refusal.in_file(start))?;
         facility.run(60)?;
@@ -33,7 +36,7 @@ pub fn run(study: &[u8]) -> Result<Facility, Refusal> {
     Ok(facility)
 }
 
-fn forecast_of(facility: &Facility) -> Forecast {
+fn forecast_of<E: Layout>(facility: &Facility<E>) -> Forecast {
     let totals = facility.totals();
     let segments = (1..=facility.segments()).map(|i| {
         let report = facility.report(i).expect("the segment is there");
@@ -66,7 +69,7 @@ mod tests {
 
     #[test]
     fn the_papers_study_after_three_steps() {
-        let (mut facility, used) = Facility::lay(&WORKED).unwrap();
+        let (mut facility, used) = Facility::<Entry>::lay(&WORKED).unwrap();
         facility.take(&WORKED[used..]).unwrap();
         facility.run(3).unwrap();
         let totals = facility.totals();

@@ -1,4 +1,4 @@
-//! Random studies: valid ones of every size, and ones damaged in every way that a refusal speaks of.
+//! Random studies of either layout: valid ones of every size, and ones damaged in every way that a refusal speaks of.
 
 use crate::model::numbers;
 
@@ -33,6 +33,33 @@ impl Random {
     }
 }
 
+/// The layout of a study's period sheets.
+#[derive(Clone, Copy, PartialEq)]
+pub enum Layout {
+    /// Two numbers a segment.
+    First,
+    /// Three numbers, the third of them open lanes. One of `closing` says for a sheet in how many percent of its segments lanes
+    /// are closed.
+    Second { closing: &'static [u64] },
+}
+
+impl Layout {
+    /// The second, every lane open.
+    pub const OPEN: Layout = Layout::Second { closing: &[0] };
+    /// A closed lane here and there, often the only one of a study.
+    pub const RARELY_CLOSED: Layout = Layout::Second { closing: &[1] };
+    /// Many closed lanes under some of the sheets.
+    pub const OFTEN_CLOSED: Layout = Layout::Second { closing: &[0, 0, 0, 15, 50, 100] };
+
+    /// How many numbers an entry has.
+    fn width(self) -> usize {
+        match self {
+            Layout::First => 2,
+            Layout::Second { .. } => 3,
+        }
+    }
+}
+
 /// How the values of a study's fields are chosen.
 #[derive(Clone, Copy, PartialEq)]
 enum Style {
@@ -63,6 +90,7 @@ struct Field {
 /// A study as fields, before it is written; `sheets` has the place of each sheet's first field, `lanes` the lanes of each segment.
 struct Fields {
     random: Random,
+    layout: Layout,
     style: Style,
     all: Vec<Field>,
     sheets: Vec<usize>,
@@ -126,11 +154,16 @@ impl Fields {
         self.add((0, 20_000), (500 * peak, 2_000 * peak), (0, 40));
         let open = self.random.chance(60);
         self.add((0, 20_000), if open { (12_000, 20_000) } else { (1_000, 6_000) }, (0, 60));
-        let closing = self.random.pick(&[0, 0, 0, 15, 50, 100]);
+        let closing = match self.layout {
+            Layout::First => None,
+            Layout::Second { closing } => Some(self.random.pick(closing)),
+        };
         for i in 0..ns as usize {
             self.add_or_zero(30, (0, 10_000), (50, 250 * peak), (0, 30));
             self.add_or_zero(10, (0, 10_000), (200, 2_000), (0, 30));
-            self.open_lanes(self.lanes[i], closing);
+            if let Some(percent) = closing {
+                self.open_lanes(self.lanes[i], percent);
+            }
         }
     }
 
@@ -165,11 +198,11 @@ impl Fields {
         self.random.within(0, self.all.len() as u64 - 1) as usize
     }
 
-    /// The place of some open lanes, where there is a period.
-    fn any_open_lanes(&mut self) -> Option<usize> {
+    /// The place of some open lanes, or of some meter rate in the first layout, where there is a period.
+    fn any_entrys_end(&mut self) -> Option<usize> {
         let periods = &self.sheets[1..];
         let segment = self.random.within(0, self.lanes.len() as u64 - 1) as usize;
-        (!periods.is_empty()).then(|| self.random.pick(periods) + 5 + 3 * segment)
+        (!periods.is_empty()).then(|| self.random.pick(periods) + 2 + self.layout.width() * (segment + 1))
     }
 }
 
@@ -179,25 +212,25 @@ fn written(numbers: impl Iterator<Item = u64>) -> Vec<u8> {
     bytes
 }
 
-/// The study of one seed.
-pub fn study(seed: u64) -> Vec<u8> {
+/// The study of one seed in a layout.
+pub fn study(seed: u64, layout: Layout) -> Vec<u8> {
     let mut random = Random::new(seed);
     random.next();
     let ns = segments(&mut random);
     let periods = periods(&mut random, ns);
     let style = random.pick(&STYLES);
-    let mut fields = Fields { random, style, all: Vec::new(), sheets: Vec::new(), lanes: Vec::new() };
+    let mut fields = Fields { random, layout, style, all: Vec::new(), sheets: Vec::new(), lanes: Vec::new() };
     fields.road(ns);
     for _ in 0..periods {
         fields.period(ns);
     }
     match fields.random.within(1, 100) {
         1..=55 => fields.bytes(),
-        56..=58 => letter_limits(ns, &mut fields.random),
+        56..=58 => letter_limits(ns, layout, &mut fields.random),
         59..=66 => out_of_range(&mut fields),
         67..=74 => bad_form(&mut fields),
         75..=78 => wrong_ns(&mut fields),
-        79..=80 => first_layout(&fields),
+        79..=80 => other_layout(&fields),
         81..=88 => truncated(&mut fields),
         89..=95 => damaged(&mut fields),
         96..=98 => with_tail(&mut fields),
@@ -231,7 +264,7 @@ fn periods(random: &mut Random, ns: u64) -> u64 {
 
 /// Segments that nobody can leave, each filled by its ramp in one period to a letter's limit, or just short of it, or just past it.
 /// The limit is that of the lanes that are open at last: from the start, or under a second sheet that brings no one.
-fn letter_limits(ns: u64, random: &mut Random) -> Vec<u8> {
+fn letter_limits(ns: u64, layout: Layout, random: &mut Random) -> Vec<u8> {
     let mut road = vec![ns, random.within(200, 300), random.within(30, 60), random.within(0, 50)];
     let mut filling = vec![ns, 0, random.within(0, 20_000)];
     let mut closing = filling.clone();
@@ -239,7 +272,7 @@ fn letter_limits(ns: u64, random: &mut Random) -> Vec<u8> {
     for _ in 0..ns {
         let limit = random.pick(&[11, 18, 26, 35, 45]);
         let lanes = random.within(1, 8);
-        let open = random.within(1, lanes);
+        let open = if layout == Layout::OFTEN_CLOSED { random.within(1, lanes) } else { lanes };
         // 60 steps of a demand d fill a length of 22 * 60 * d / (limit * open) to the limit
         let mut demand = random.within(1_000, 25_000) * limit * open / 1_320;
         if random.chance(50) {
@@ -247,8 +280,8 @@ fn letter_limits(ns: u64, random: &mut Random) -> Vec<u8> {
         }
         let length = 1_320 * demand / (limit * open) + random.within(0, 1);
         road.extend([length.clamp(300, 26_400), lanes, random.within(15, 85), 20_000, 10_000, 1_000, 0]);
-        filling.extend([demand, 10_000, if two_sheets { lanes } else { open }]);
-        closing.extend([0, 10_000, open]);
+        filling.extend(&[demand, 10_000, if two_sheets { lanes } else { open }][..layout.width()]);
+        closing.extend(&[0, 10_000, open][..layout.width()]);
     }
     if !two_sheets {
         closing.clear();
@@ -258,8 +291,8 @@ fn letter_limits(ns: u64, random: &mut Random) -> Vec<u8> {
 
 /// One field just outside its range, or far outside; often some open lanes.
 fn out_of_range(fields: &mut Fields) -> Vec<u8> {
-    let open_lanes = fields.any_open_lanes().filter(|_| fields.random.chance(50));
-    let at = open_lanes.unwrap_or_else(|| fields.any_place());
+    let entrys_end = fields.any_entrys_end().filter(|_| fields.random.chance(50));
+    let at = entrys_end.unwrap_or_else(|| fields.any_place());
     let Field { low, high, .. } = fields.all[at];
     let far = fields.random.pick(&[high + 128, 65_536, 4_294_967_295]);
     fields.all[at].value = match fields.random.chance(50) {
@@ -306,16 +339,23 @@ fn wrong_ns(fields: &mut Fields) -> Vec<u8> {
     fields.bytes()
 }
 
-/// The study in the first layout, whose sheets have no open lanes: its numbers are then read as others.
-fn first_layout(fields: &Fields) -> Vec<u8> {
-    let ns = fields.lanes.len();
-    let (road, sheets) = fields.all.split_at(4 + 7 * ns);
-    let without = |sheet: &'_ [Field]| {
-        let kept = sheet.iter().enumerate().filter(|(i, _)| *i < 3 || i % 3 < 2);
-        kept.map(|(_, field)| field.value).collect::<Vec<_>>()
-    };
-    let road = road.iter().map(|field| field.value);
-    written(road.chain(sheets.chunks(3 + 3 * ns).flat_map(without)))
+/// The study in the other layout, without its open lanes or with all lanes open: its numbers are then read as others.
+fn other_layout(fields: &Fields) -> Vec<u8> {
+    let (ns, width) = (fields.lanes.len(), fields.layout.width());
+    let values: Vec<u64> = fields.all.iter().map(|field| field.value).collect();
+    let (road, sheets) = values.split_at(4 + 7 * ns);
+    let mut other = road.to_vec();
+    for sheet in sheets.chunks(3 + width * ns) {
+        let (head, entries) = sheet.split_at(3);
+        other.extend(head);
+        for (entry, &lanes) in entries.chunks(width).zip(&fields.lanes) {
+            other.extend(&entry[..2]);
+            if fields.layout == Layout::First {
+                other.push(lanes);
+            }
+        }
+    }
+    written(other.into_iter())
 }
 
 /// The study cut short, often within its last sheet.

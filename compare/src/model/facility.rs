@@ -1,20 +1,21 @@
 //! The calls on a facility. A refused laying gives no facility here, so refusal 9 does not arise.
 
-use super::sheets::{self, Period, Refusal, Road};
+use super::sheets::{self, Entry, Layout, Period, Refusal, Road};
 use super::step::{self, Flows, State};
 
 const STEPS_OF_A_PERIOD: u64 = 60;
-const MOST_PERIODS: u64 = 96;
+pub const MOST_PERIODS: u64 = 96;
 
+/// A facility whose period sheets are of one layout, by default the second.
 #[derive(Clone, Debug)]
-pub struct Facility {
+pub struct Facility<E = Entry> {
     road: Road,
-    /// The road by the open lanes of the sheet in force; before any sheet all are open.
+    /// The road by what the sheet in force has open; before any sheet all lanes are.
     road_in_force: Road,
     state: State,
     last: Flows,
     /// The sheet in force with the steps made under it.
-    in_force: Option<(Period, u64)>,
+    in_force: Option<(Period<E>, u64)>,
     taken: u64,
     arrived: u64,
     left: u64,
@@ -38,9 +39,9 @@ pub struct Totals {
     pub part_steps: u64,
 }
 
-impl Facility {
+impl<E: Layout> Facility<E> {
     /// A new facility from the road at the front of `bytes`, and how many bytes it took.
-    pub fn lay(bytes: &[u8]) -> Result<(Facility, usize), Refusal> {
+    pub fn lay(bytes: &[u8]) -> Result<(Facility<E>, usize), Refusal> {
         let (road, used) = sheets::read_road(bytes)?;
         let ns = road.segments.len();
         let facility = Facility {
@@ -72,7 +73,7 @@ impl Facility {
     }
 
     /// Puts a sheet in force, with no step made under it yet.
-    pub fn put_in_force(&mut self, period: Period) {
+    pub fn put_in_force(&mut self, period: Period<E>) {
         self.road_in_force = step::in_force(&self.road, &period);
         self.in_force = Some((period, 0));
     }
@@ -88,7 +89,7 @@ impl Facility {
         }
         for _ in 0..k {
             self.last = step::step(&self.road_in_force, period, &mut self.state);
-            self.arrived += period.demand + period.entries.iter().map(|entry| entry.ramp_demand).sum::<u64>();
+            self.arrived += period.demand + period.entries.iter().map(E::ramp_demand).sum::<u64>();
             self.left += self.last.f[self.road.segments.len()];
             for (segment, &y) in self.road.segments.iter().zip(&self.last.y) {
                 self.left += step::off(segment, y);
@@ -119,6 +120,11 @@ impl Facility {
 
     pub fn totals(&self) -> Totals {
         Totals { arrived: self.arrived, left: self.left, stored: self.state.stored(), part_steps: self.part_steps }
+    }
+
+    /// How many period sheets were taken.
+    pub fn periods(&self) -> u64 {
+        self.taken
     }
 
     /// NS

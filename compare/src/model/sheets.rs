@@ -51,16 +51,17 @@ pub struct Segment {
     pub off_capacity: u64,
 }
 
+/// A period sheet; its two layouts differ in the entries alone.
 #[derive(Clone, Debug)]
-pub struct Period {
+pub struct Period<E = Entry> {
     /// The mainline's demand
     pub demand: u64,
     /// X
     pub exit_capacity: u64,
-    pub entries: Vec<Entry>,
+    pub entries: Vec<E>,
 }
 
-/// A segment's entry in a period sheet.
+/// A segment's entry in a period sheet of the second layout.
 #[derive(Clone, Debug)]
 pub struct Entry {
     pub ramp_demand: u64,
@@ -68,14 +69,58 @@ pub struct Entry {
     pub open_lanes: u64,
 }
 
+/// A segment's entry in a period sheet of one of the layouts, and what is in force under it.
+pub trait Layout: Sized {
+    /// The entry of a segment, from its fields.
+    fn read(fields: &mut Fields, segment: &Segment) -> Result<Self, Refusal>;
+
+    /// Its numbers, in the order of the sheet.
+    fn numbers(&self) -> Vec<u64>;
+
+    fn ramp_demand(&self) -> u64;
+
+    fn meter(&self) -> u64;
+
+    /// The segment by the lanes and the capacity that are in force.
+    fn in_force(&self, segment: &Segment) -> Segment;
+}
+
+impl Layout for Entry {
+    fn read(fields: &mut Fields, segment: &Segment) -> Result<Entry, Refusal> {
+        Ok(Entry {
+            ramp_demand: fields.next(0..=10_000)?,
+            meter: fields.next(0..=10_000)?,
+            open_lanes: fields.next(1..=segment.lanes)?,
+        })
+    }
+
+    fn numbers(&self) -> Vec<u64> {
+        vec![self.ramp_demand, self.meter, self.open_lanes]
+    }
+
+    fn ramp_demand(&self) -> u64 {
+        self.ramp_demand
+    }
+
+    fn meter(&self) -> u64 {
+        self.meter
+    }
+
+    /// Only the open lanes count, and their part of the capacity.
+    fn in_force(&self, segment: &Segment) -> Segment {
+        let capacity = segment.capacity * self.open_lanes / segment.lanes;
+        Segment { lanes: self.open_lanes, capacity, ..segment.clone() }
+    }
+}
+
 /// Reads one field after the other from the front of the bytes.
-struct Fields<'a> {
+pub struct Fields<'a> {
     bytes: &'a [u8],
     used: usize,
 }
 
 impl Fields<'_> {
-    fn next(&mut self, range: RangeInclusive<u64>) -> Result<u64, Refusal> {
+    pub fn next(&mut self, range: RangeInclusive<u64>) -> Result<u64, Refusal> {
         self.next_or(range, 4)
     }
 
@@ -117,18 +162,14 @@ pub fn read_road(bytes: &[u8]) -> Result<(Road, usize), Refusal> {
 }
 
 /// The period at the front of `bytes` for a road, and how many bytes it takes.
-pub fn read_period(bytes: &[u8], road: &Road) -> Result<(Period, usize), Refusal> {
+pub fn read_period<E: Layout>(bytes: &[u8], road: &Road) -> Result<(Period<E>, usize), Refusal> {
     let mut fields = Fields { bytes, used: 0 };
     let ns = road.segments.len() as u64;
     fields.next_or(ns..=ns, 14)?;
     let mut period =
         Period { demand: fields.next(0..=20_000)?, exit_capacity: fields.next(0..=20_000)?, entries: Vec::new() };
     for segment in &road.segments {
-        period.entries.push(Entry {
-            ramp_demand: fields.next(0..=10_000)?,
-            meter: fields.next(0..=10_000)?,
-            open_lanes: fields.next(1..=segment.lanes)?,
-        });
+        period.entries.push(E::read(&mut fields, segment)?);
     }
     Ok((period, fields.used))
 }
@@ -143,20 +184,21 @@ pub fn write_road(road: &Road) -> Vec<u8> {
 }
 
 /// The period's bytes.
-pub fn write_period(period: &Period) -> Vec<u8> {
+pub fn write_period<E: Layout>(period: &Period<E>) -> Vec<u8> {
     written(&period_numbers(period))
 }
 
 /// The period's numbers, in the order of its sheet.
-pub fn period_numbers(period: &Period) -> Vec<u64> {
+pub fn period_numbers<E: Layout>(period: &Period<E>) -> Vec<u64> {
     let mut fields = vec![period.entries.len() as u64, period.demand, period.exit_capacity];
     for entry in &period.entries {
-        fields.extend([entry.ramp_demand, entry.meter, entry.open_lanes]);
+        fields.extend(entry.numbers());
     }
     fields
 }
 
-fn written(fields: &[u64]) -> Vec<u8> {
+/// The bytes of numbers, each in its shortest form.
+pub fn written(fields: &[u64]) -> Vec<u8> {
     let mut bytes = Vec::new();
     for &field in fields {
         numbers::write(field, &mut bytes);

@@ -2,7 +2,7 @@
 //!
 //! The rules are those of a road in force: N is the number of open lanes there, and C the capacity that these have.
 
-use super::sheets::{Period, Road, Segment};
+use super::sheets::{Layout, Period, Road, Segment};
 
 /// What stands on the road: parts in each segment, in each ramp's queue, and before node 1.
 #[derive(Clone, Debug)]
@@ -36,14 +36,10 @@ impl Flows {
     }
 }
 
-/// The road that is in force under a sheet: of each segment only the open lanes count, and their part of its capacity.
-pub fn in_force(road: &Road, period: &Period) -> Road {
-    let mut in_force = road.clone();
-    for (segment, entry) in in_force.segments.iter_mut().zip(&period.entries) {
-        segment.capacity = segment.capacity * entry.open_lanes / segment.lanes;
-        segment.lanes = entry.open_lanes;
-    }
-    in_force
+/// The road that is in force under a sheet: each segment as its entry has it.
+pub fn in_force<E: Layout>(road: &Road, period: &Period<E>) -> Road {
+    let segments = road.segments.iter().zip(&period.entries).map(|(segment, entry)| entry.in_force(segment));
+    Road { segments: segments.collect(), ..*road }
 }
 
 /// J: what the segment holds when jammed.
@@ -122,17 +118,17 @@ fn leaving(segment: &Segment, y0: u64, let_in: u64) -> u64 {
 }
 
 /// One step on a road in force: every flow is worked out from the state at the step's start, then all move at once.
-pub fn step(road: &Road, period: &Period, state: &mut State) -> Flows {
+pub fn step<E: Layout>(road: &Road, period: &Period<E>, state: &mut State) -> Flows {
     let flows = flows(road, period, state);
     for i in 0..road.segments.len() {
         state.n[i] = state.n[i] + flows.f[i] + flows.r[i] - flows.y[i];
-        state.q[i] = state.q[i] + period.entries[i].ramp_demand - flows.r[i];
+        state.q[i] = state.q[i] + period.entries[i].ramp_demand() - flows.r[i];
     }
     state.o = state.o + period.demand - flows.f[0];
     flows
 }
 
-fn flows(road: &Road, period: &Period, state: &State) -> Flows {
+fn flows<E: Layout>(road: &Road, period: &Period<E>, state: &State) -> Flows {
     let ns = road.segments.len();
     let y0: Vec<u64> = (0..ns).map(|i| could_leave(&road.segments[i], state.n[i])).collect();
     // M at node i + 1, the exit included
@@ -148,7 +144,7 @@ fn flows(road: &Road, period: &Period, state: &State) -> Flows {
         };
         let p = supply(road, segment, state.n[i], queue_before);
         let entry = &period.entries[i];
-        let w = (state.q[i] + entry.ramp_demand).min(segment.ramp_capacity).min(entry.meter);
+        let w = (state.q[i] + entry.ramp_demand()).min(segment.ramp_capacity).min(entry.meter());
         (flows.r[i], flows.f[i]) = merge(p, wish(i), w, segment.lanes);
     }
     flows.f[ns] = wish(ns).min(period.exit_capacity);

@@ -1,5 +1,6 @@
 -- Document 01, "One step", and document 02, Q-1, closed lanes: what is in force while a step is made (NS, the mainline demand, the exit
--- capacity X, and at each segment the numbers that the rules go by there). Here alone a road and a period sheet become conditions.
+-- capacity X, and at each segment the numbers that the rules go by there). Here alone a road and a period sheet become conditions; those of the
+-- first rules (Q-2) stand in `first_rules`.
 use Prim.Native.Nat.{ℕ, _-_, _*_, _/_, min}
 use mathlib.Core.List.{List}
 use lib.ListN.{getD}
@@ -22,24 +23,28 @@ partsAt k n l = k * n * l / 22
 unfoldable pub loweredBy : (cut capacity : ℕ) → ℕ
 loweredBy a c = c * (100 - a) / 100
 
--- what is in force at a segment, from the road's KJ, KC and A, the segment, and its entry in the sheet: L, V, the open lanes, the capacity
--- with these, the same behind a queue, J, Q, the lesser of R and the meter rate, s, F and the ramp demand
+-- what is in force at a segment with so many lanes in force and this capacity, from the road's KJ, KC and A, the segment, and the meter rate
+-- and ramp demand of its sheet: L, V, the lanes, the capacity, the same behind a queue, J, Q, the lesser of R and the meter rate, s, F and the
+-- ramp demand
+abbrev pub inForceWith : RoadGlobals → Segment → (lanes capacity meter demand : ℕ) → InForce
+inForceWith g seg lanes capacity meter demand = record {
+  length = seg .length;
+  speed = seg .speed;
+  lanes = lanes;
+  capacity = capacity;
+  lowered = loweredBy (g .cut) capacity;
+  jam = partsAt (g .jam) lanes (seg .length);
+  critical = partsAt (g .critical) lanes (seg .length);
+  limit = min (seg .onramp) meter;
+  share = seg .share;
+  offramp = seg .offramp;
+  demand = demand;
+}
+
+-- by the segment's entry in the sheet: the open lanes, and the capacity with these
 unfoldable pub inForce : RoadGlobals → Segment → Entry → InForce
 inForce g seg entry =
-    let capacity = openCapacity (seg .capacity) (seg .lanes) (entry .opened) in
-    record {
-      length = seg .length;
-      speed = seg .speed;
-      lanes = entry .opened;
-      capacity = capacity;
-      lowered = loweredBy (g .cut) capacity;
-      jam = partsAt (g .jam) (entry .opened) (seg .length);
-      critical = partsAt (g .critical) (entry .opened) (seg .length);
-      limit = min (seg .onramp) (entry .meter);
-      share = seg .share;
-      offramp = seg .offramp;
-      demand = entry .demand;
-    }
+    inForceWith g seg (entry .opened) (openCapacity (seg .capacity) (seg .lanes) (entry .opened)) (entry .meter) (entry .demand)
 
 -- the sheet in force: none before the first is taken
 pub data SheetInForce : Type 0 where
@@ -74,14 +79,18 @@ segments road = roadGlobals road .segments
 abbrev pub inForceOf : List ℕ → SheetInForce → ℕ → InForce
 inForceOf road sheet i = inForce (roadGlobals road) (segmentOf road i) (entryUnder road sheet i)
 
--- the conditions of a road under the sheet in force
-unfoldable pub conditionsOf : List ℕ → SheetInForce → Conditions
-conditionsOf road sheet = record {
+-- conditions, by what is in force at each segment of a road under the sheet in force
+abbrev pub conditionsWith : (ℕ → InForce) → List ℕ → SheetInForce → Conditions
+conditionsWith place road sheet = record {
   segments = segments road;
   demand = demandUnder sheet;
   outlet = outletUnder sheet;
-  places = valuesTo (inForceOf road sheet) (segments road);
+  places = valuesTo place (segments road);
 }
+
+-- the conditions of a road under the sheet in force, of the second layout
+unfoldable pub conditionsOf : List ℕ → SheetInForce → Conditions
+conditionsOf road sheet = conditionsWith (inForceOf road sheet) road sheet
 
 -- past the last segment nothing is in force
 abbrev pub nothingInForce : InForce

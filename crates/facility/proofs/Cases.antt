@@ -92,7 +92,7 @@ module _ (f : Facility) (e : sound f ≡ false) where
 
 -- ---- a sound one, by the verdict
 module _ (f : Facility) (e : sound f ≡ true) where
-  pub take-by : (bytes : List ℕ) (r : Rows) → takeVerdict (f .road) (f .taken) (f .made) bytes ≡ r → takeOf f bytes ≡ takenBy f r
+  pub take-by : (bytes : List ℕ) (r : Rows) → takeVerdict (readPeriod (f .road)) (f .taken) (f .made) bytes ≡ r → takeOf f bytes ≡ takenBy f r
   unfolding takeOf
   take-by bytes r v = rw (e, v)
 

@@ -18,8 +18,8 @@ use Rattle.door.specs.declared.Facility.{Facility}
 use Rattle.facility.specs.declared.Reply.{Reply}
 use Rattle.door.specs.Sound.{sound}
 use Rattle.facility.specs.Calls.{laidBy, layOf, takeOf, runOf, reportOf, totalsOf}
-use Rattle.facility.specs.Ledger.{Call, Take, Run, Report, Totals, Answer, Book, opened, withRow, withSteps, withRun, answer, after, answers, bookAfter}
-use Rattle.facility.specs.Verdicts.{Verdict, GoesOn, RefusedBy, takeVerdict, runVerdict}
+use Rattle.facility.specs.Ledger.{Call, Take, Run, Report, Totals, Answer, Book, Rules, present, takeBy, opened, withRow, withSteps, withRun, answer, afterBy, after, answers, bookAfter}
+use Rattle.facility.specs.Verdicts.{Verdict, GoesOn, RefusedBy, runVerdict}
 use Rattle.facility.specs.Statement.{ListStatement, AcceptedRoad, roadOf}
 use Rattle.facility.specs.Answers.{takeSays, runSays, reportSays, totalsSay}
 use Rattle.facility.proofs.Trail.{KeptBook, kept-opened, kept-after}
@@ -80,16 +80,17 @@ road-of-row b (ReadRow row used) = refl
 road-of-row b (RefusedAt e at) = refl
 
 -- what the steps of a run leave as it was, a run does
-pub run-keeps : {A : Type 0} (field : Book → A) (b : Book) (k : ℕ) → field (withSteps k b) ≡ field b → field (after b (Run k)) ≡ field b
-run-keeps field b k e = by (runVerdict (b .taken) (b .made) k)
+pub run-keeps : {A : Type 0} (rules : Rules) (field : Book → A) (b : Book) (k : ℕ) → field (withSteps rules k b) ≡ field b
+    → field (afterBy rules b (Run k)) ≡ field b
+run-keeps rules field b k e = by (runVerdict (b .taken) (b .made) k)
   where
-    by : (v : Verdict) → field (withRun b k v) ≡ field b
+    by : (v : Verdict) → field (withRun rules b k v) ≡ field b
     by GoesOn = e
     by (RefusedBy number) = refl
 
 road-after : (b : Book) (c : Call) → after b c .road ≡ b .road
-road-after b (Take bytes) = road-of-row b (takeVerdict (b .road) (b .taken) (b .made) bytes)
-road-after b (Run k) = run-keeps (λ b. b .road) b k refl
+road-after b (Take bytes) = road-of-row b (takeBy present b bytes)
+road-after b (Run k) = run-keeps present (λ b. b .road) b k refl
 road-after b (Report i) = refl
 road-after b Totals = refl
 

@@ -8,13 +8,15 @@ use native.Mathlib.Nat.{add-zero}
 use lib.Dec.{eqb}
 use borrow.Author.Tests.{ne-eqb}
 use Rattle.numbers.specs.Row.{Rows, ReadRow, RefusedAt}
+use Rattle.sheets.specs.Read.{readPeriod}
+use Rattle.sheets.proofs.Refusals.{period-refusal}
 use Rattle.conditions.specs.Conditions.{Conditions, SheetInForce, conditionsOf}
 use Rattle.door.specs.Sound.{sheeted, sound}
 use Rattle.running.specs.Steps.{sheetBy, conditionsOn, stepOf, stepsOf}
 use Rattle.facility.specs.Calls.{freshOn, withSheet, takenBy, takeOf, ranBy, runOf, levelAt, reportedBy, reportOf, totalsOf}
-use Rattle.facility.specs.Ledger.{Take, Run, Report, Totals, stateAfter, arrivedIn, leftIn, partstepsIn, stepFrom, moreSteps, Book, conditionsBy, opened, takenAs, withRow, withSteps, ranAs, withRun, reportedAs, answer, after}
+use Rattle.facility.specs.Ledger.{Take, Run, Report, Totals, stateAfter, arrivedIn, leftIn, partstepsIn, stepFrom, moreSteps, Book, present, conditionsBy, takeBy, opened, takenAs, withRow, withSteps, ranAs, withRun, reportedAs, answer, after}
 use Rattle.facility.specs.declared.Reply.{Reply}
-use Rattle.facility.specs.Verdicts.{Verdict, GoesOn, RefusedBy, takeVerdict, runVerdict, reportVerdict}
+use Rattle.facility.specs.Verdicts.{Verdict, GoesOn, RefusedBy, runVerdict, reportVerdict}
 use Rattle.facility.proofs.Verdicts.{take-named, run-named, report-named}
 use Rattle.facility.proofs.Cases.{take-by, run-by, report-by, totals-sound}
 use Rattle.facility.specs.View.{rowIn, view}
@@ -37,7 +39,7 @@ unfolding sheeted
 fits-sheeted unsheeted = refl
 fits-sheeted (sheeted-as {n = n} some e) = rw (ne-eqb n 0 (λ z. omega arith)) e
 
-pub in-force-view : (b : Book) → SheetFits (b .road) (b .taken) (b .sheet) → conditionsOn (view b) ≡ conditionsBy b
+pub in-force-view : (b : Book) → SheetFits (b .road) (b .taken) (b .sheet) → conditionsOn (view b) ≡ conditionsBy present b
 in-force-view b s = ap (conditionsOf (b .road)) (fits-by s)
 
 -- a number that is not 0 is told from 0
@@ -62,19 +64,19 @@ one : (b : Book) → stepOf (view b) ≡ view (stepMore b (conditionsOn (view b)
 unfolding stepOf arrivedIn leftIn partstepsIn
 one b = refl
 
-pub steps-view : (b : Book) → SheetFits (b .road) (b .taken) (b .sheet) → (n : ℕ) → stepsOf n (view b) ≡ view (withSteps n b)
+pub steps-view : (b : Book) → SheetFits (b .road) (b .taken) (b .sheet) → (n : ℕ) → stepsOf n (view b) ≡ view (withSteps present n b)
 unfolding stepsOf
 steps-view b s zero = rw add-zero
 steps-view b s (suc n) =
     ap stepOf (steps-view b s n)
-    ∙ one (withSteps n b)
-    ∙ ap (λ (c : Conditions). view (stepMore (withSteps n b) c)) (in-force-view b s)
+    ∙ one (withSteps present n b)
+    ∙ ap (λ (c : Conditions). view (stepMore (withSteps present n b) c)) (in-force-view b s)
     ∙ ap (λ (m : ℕ). view (record {
       road = b .road;
       sheet = b .sheet;
       taken = b .taken;
       made = m;
-      trail = moreSteps (conditionsBy b) (suc n) (b .trail);
+      trail = moreSteps (conditionsBy present b) (suc n) (b .trail);
     })) (omega arith)
 
 row-by : (b : Book) (r : Rows) → ((e at : ℕ) → r ≡ RefusedAt e at → 1 ≤ e)
@@ -87,11 +89,11 @@ pub takes : (b : Book) (bytes : List ℕ) → KeptBook b
     → (takeSays (takeOf (view b) bytes) ≡ answer b (Take bytes)) × (takeOf (view b) bytes .facility ≡ view (after b (Take bytes)))
 takes b bytes f =
     let v = take-by (view b) (sound-view b f) bytes _ refl in
-    let r = row-by b (takeVerdict (b .road) (b .taken) (b .made) bytes) (take-named (b .road) (b .taken) (b .made) bytes) in
+    let r = row-by b (takeBy present b bytes) (take-named (readPeriod (b .road)) (b .taken) (b .made) bytes (period-refusal (b .road) bytes)) in
     (ap takeSays v ∙ r .0, ap (λ (q : Reply). q .facility) v ∙ r .1)
 
 ran-by : (b : Book) → SheetFits (b .road) (b .taken) (b .sheet) → (k : ℕ) (v : Verdict) → ((e : ℕ) → v ≡ RefusedBy e → 1 ≤ e)
-    → (runSays (ranBy (view b) k v) ≡ ranAs v) × (ranBy (view b) k v .facility ≡ view (withRun b k v))
+    → (runSays (ranBy (view b) k v) ≡ ranAs v) × (ranBy (view b) k v .facility ≡ view (withRun present b k v))
 ran-by b s k GoesOn h = (refl, steps-view b s k)
 ran-by b s k (RefusedBy e) h = (rw (named e (h e refl)), refl)
 
@@ -103,7 +105,7 @@ runs b k f =
     (ap runSays v ∙ r .0, ap (λ (q : Reply). q .facility) v ∙ r .1)
 
 reported-by : (b : Book) → SheetFits (b .road) (b .taken) (b .sheet) → (i : ℕ) (v : Verdict) → ((e : ℕ) → v ≡ RefusedBy e → 1 ≤ e)
-    → reportSays (reportedBy (view b) i v) ≡ reportedAs b i v
+    → reportSays (reportedBy (view b) i v) ≡ reportedAs present b i v
 unfolding levelAt
 reported-by b s i GoesOn h = rw (in-force-view b s)
 reported-by b s i (RefusedBy e) h = rw (named e (h e refl))

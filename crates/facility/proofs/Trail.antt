@@ -12,7 +12,7 @@ use Rattle.parts.specs.Allowed.{roadAllowed, periodAllowed}
 use Rattle.parts.specs.Good.{GoodRoad}
 use Rattle.parts.proofs.Good.{good-road, good-period, read-period-allowed}
 use Rattle.numbers.specs.Row.{Rows, ReadRow, RefusedAt}
-use Rattle.sheets.specs.Read.{padded}
+use Rattle.sheets.specs.Read.{readPeriod, padded}
 use Rattle.segment.specs.declared.Cell.{Cell}
 use Rattle.conditions.specs.Conditions.{Conditions, SheetInForce, None, Under, conditionsOf, segments}
 use Rattle.steps.specs.Step.{cellIn, stepped, freshState, arrivedOf, leftOf, storedOf, sumTo}
@@ -22,8 +22,8 @@ use Rattle.steps.proofs.Laws.{stepped-length}
 use Rattle.steps.proofs.Bounds.{bounded-after, bounded-fresh, cell-fresh, arrived-most, left-most}
 use Rattle.steps.proofs.Claims.{stepped-holds}
 use Rattle.door.specs.Sound.{stepsBy}
-use Rattle.facility.specs.Ledger.{Call, Take, Run, Report, Totals, Trail, stateAfter, arrivedIn, leftIn, partstepsIn, stepFrom, moreSteps, Book, conditionsBy, opened, withRow, withRun, after}
-use Rattle.facility.specs.Verdicts.{Verdict, GoesOn, RefusedBy, unfinished, takeVerdict, runVerdict}
+use Rattle.facility.specs.Ledger.{Call, Take, Run, Report, Totals, Trail, stateAfter, arrivedIn, leftIn, partstepsIn, stepFrom, moreSteps, Book, present, conditionsBy, takeBy, opened, withRow, withRun, after}
+use Rattle.facility.specs.Verdicts.{Verdict, GoesOn, RefusedBy, unfinished, runVerdict}
 use Rattle.facility.proofs.Verdicts.{take-accepted, run-accepted}
 use Rattle.facility.specs.Claims.{Every, none, and, Chained, start, link, Right, Balanced, nothing, still}
 use Rattle.door.proofs.Sound.{BoundedSums}
@@ -159,7 +159,7 @@ row-by b f (ReadRow row used) h =
 row-by b f (RefusedAt e at) h = f
 
 -- a run, by the verdict
-run-by : (b : Book) (k : ℕ) → KeptBook b → (v : Verdict) → (v ≡ GoesOn → (0 < b .taken) × (k ≤ 60 - b .made)) → KeptBook (withRun b k v)
+run-by : (b : Book) (k : ℕ) → KeptBook b → (v : Verdict) → (v ≡ GoesOn → (0 < b .taken) × (k ≤ 60 - b .made)) → KeptBook (withRun present b k v)
 unfolding stepsBy
 run-by b k f (RefusedBy e) h = f
 run-by b k f GoesOn h =
@@ -171,14 +171,14 @@ run-by b k f GoesOn h =
       few = f .few;
       short = omega (arith, f .short);
       sheet = f .sheet;
-      made = omega (arith, length-more (conditionsBy b) k (b .trail), f .made, f .short);
+      made = omega (arith, length-more (conditionsBy present b) k (b .trail), f .made, f .short);
       kept = kept-more (b .road) good (b .sheet) (good-sheet-in b f) k (b .trail) (omega (arith, f .made, f .few, f .short)) (f .kept);
     }
 
 pub kept-after : (b : Book) (c : Call) → KeptBook b → KeptBook (after b c)
 kept-after b (Take bytes) f =
-    row-by b f (takeVerdict (b .road) (b .taken) (b .made) bytes) (λ row used e.
-    let a = take-accepted (b .road) (b .taken) (b .made) bytes row used e in
+    row-by b f (takeBy present b bytes) (λ row used e.
+    let a = take-accepted (readPeriod (b .road)) (b .taken) (b .made) bytes row used e in
     (a .0, a .1, read-period-allowed (b .road) bytes row used (a .2)))
 kept-after b (Run k) f = run-by b k f (runVerdict (b .taken) (b .made) k) (run-accepted (b .taken) (b .made) k)
 kept-after b (Report i) f = f

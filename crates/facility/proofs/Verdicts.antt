@@ -8,22 +8,20 @@ use lib.Dec.{leb, ltb, eqb}
 use borrow.Author.Tests.{le-leb, lt-leb, lt-ltb, le-ltb, eq-eqb, ne-eqb, leb-false, ltb-false}
 use Rattle.numbers.specs.Choice.{if_then_else_}
 use Rattle.numbers.specs.Row.{Rows, ReadRow, RefusedAt}
-use Rattle.sheets.specs.Read.{readPeriod}
-use Rattle.sheets.proofs.Refusals.{period-refusal}
 use Rattle.conditions.specs.Conditions.{segments}
 use Rattle.facility.specs.Verdicts.{Verdict, GoesOn, RefusedBy, numberOf, outside, unfinished, takeVerdict, runVerdict, reportVerdict, periodVerdict}
 
 -- ---- taking a sheet
-module _ (road : List ℕ) (taken made : ℕ) (bytes : List ℕ) where
-  pub take-unfinished : unfinished taken made ≡ true → takeVerdict road taken made bytes ≡ RefusedAt 12 0
+module _ (read : List ℕ → Rows) (taken made : ℕ) (bytes : List ℕ) where
+  pub take-unfinished : unfinished taken made ≡ true → takeVerdict read taken made bytes ≡ RefusedAt 12 0
   unfolding takeVerdict
   take-unfinished u = rw u
 
-  pub take-full : unfinished taken made ≡ false → 96 ≤ taken → takeVerdict road taken made bytes ≡ RefusedAt 13 0
+  pub take-full : unfinished taken made ≡ false → 96 ≤ taken → takeVerdict read taken made bytes ≡ RefusedAt 13 0
   unfolding takeVerdict
   take-full u h = rw (u, le-leb _ _ h)
 
-  pub take-reads : unfinished taken made ≡ false → taken < 96 → takeVerdict road taken made bytes ≡ readPeriod road bytes
+  pub take-reads : unfinished taken made ≡ false → taken < 96 → takeVerdict read taken made bytes ≡ read bytes
   unfolding takeVerdict
   take-reads u h = rw (u, lt-leb _ _ h)
 
@@ -35,10 +33,10 @@ module _ (road : List ℕ) (taken made : ℕ) (bytes : List ℕ) where
   accepted-by r false false row used p q e = (p, leb-false _ _ q, e)
 
   -- a sheet is taken only where no period is unfinished, fewer than 96 are taken and the reading accepts it
-  pub take-accepted : (row : List ℕ) (used : ℕ) → takeVerdict road taken made bytes ≡ ReadRow row used
-      → (unfinished taken made ≡ false) × (taken < 96) × (readPeriod road bytes ≡ ReadRow row used)
+  pub take-accepted : (row : List ℕ) (used : ℕ) → takeVerdict read taken made bytes ≡ ReadRow row used
+      → (unfinished taken made ≡ false) × (taken < 96) × (read bytes ≡ ReadRow row used)
   unfolding takeVerdict
-  take-accepted row used e = accepted-by (readPeriod road bytes) (unfinished taken made) (leb 96 taken) row used refl refl e
+  take-accepted row used e = accepted-by (read bytes) (unfinished taken made) (leb 96 taken) row used refl refl e
 
   take-named-by : (r : Rows) (x y : Bool) → ((e at : ℕ) → r ≡ RefusedAt e at → 1 ≤ e) → (e at : ℕ)
       → (if x then RefusedAt 12 0 else if y then RefusedAt 13 0 else r) ≡ RefusedAt e at → 1 ≤ e
@@ -46,9 +44,9 @@ module _ (road : List ℕ) (taken made : ℕ) (bytes : List ℕ) where
   take-named-by r false true h e at q = let n : 13 ≡ e = cc in omega arith
   take-named-by r false false h e at q = h e at q
 
-  pub take-named : (e at : ℕ) → takeVerdict road taken made bytes ≡ RefusedAt e at → 1 ≤ e
+  pub take-named : ((e at : ℕ) → read bytes ≡ RefusedAt e at → 1 ≤ e) → (e at : ℕ) → takeVerdict read taken made bytes ≡ RefusedAt e at → 1 ≤ e
   unfolding takeVerdict
-  take-named e at q = take-named-by (readPeriod road bytes) (unfinished taken made) (leb 96 taken) (period-refusal road bytes) e at q
+  take-named h e at q = take-named-by (read bytes) (unfinished taken made) (leb 96 taken) h e at q
 
 -- ---- running
 nonzero : (n : ℕ) → eqb n 0 ≡ false → 0 < n

@@ -5,7 +5,7 @@ use lib.ListN.{replicate}
 use Rattle.numbers.specs.Choice.{if_then_else_}
 use Rattle.numbers.specs.Writing.{Writing, Refused, writeAnswer, writeInto}
 use Rattle.numbers.specs.Row.{Rows, ReadRow, RefusedAt}
-use Rattle.sheets.specs.Read.{readRoad, padded}
+use Rattle.sheets.specs.Read.{readRoad, readPeriod, padded}
 use Rattle.sheets.specs.Write.{rowBytes, roadRow, periodRow}
 use Rattle.segment.specs.declared.Cell.{Cell}
 use Rattle.letters.specs.declared.Level.{Level}
@@ -82,7 +82,7 @@ takenBy f (RefusedAt number offset) = refused f number offset
 
 -- Take a period sheet: 9, then its verdict
 unfoldable pub takeOf : Facility → List ℕ → Reply
-takeOf f bytes = unlessEmpty f (λ e. refused f e 0) (takenBy f (takeVerdict (f .road) (f .taken) (f .made) bytes))
+takeOf f bytes = unlessEmpty f (λ e. refused f e 0) (takenBy f (takeVerdict (readPeriod (f .road)) (f .taken) (f .made) bytes))
 
 -- by the verdict: the facility after k steps; "a refused run makes no step"
 abbrev pub ranBy : Facility → ℕ → Verdict → Reply

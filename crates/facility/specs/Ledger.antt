@@ -3,7 +3,7 @@ use Prim.Native.Nat.{ℕ, zero, suc, _+_, _-_}
 use mathlib.Core.List.{List, [], _∷_}
 use lib.ListN.{take}
 use Rattle.numbers.specs.Row.{Rows, ReadRow, RefusedAt}
-use Rattle.sheets.specs.Read.{padded}
+use Rattle.sheets.specs.Read.{readPeriod, padded}
 use Rattle.facility.specs.Verdicts.{Verdict, GoesOn, RefusedBy, takeVerdict, runVerdict, reportVerdict}
 use Rattle.segment.specs.declared.Cell.{Cell}
 use Rattle.steps.specs.declared.State.{State}
@@ -81,9 +81,22 @@ pub record Book : Type 0 where
   pub made : ℕ
   pub trail : Trail
 
+-- the rules that a ledger goes by: how a period sheet is read on a road, and what is in force on a road under the sheet in force
+pub record Rules : Type 0 where
+  pub read : (road bytes : List ℕ) → Rows
+  pub conditions : (road : List ℕ) → SheetInForce → Conditions
+
+-- the present ones, which every call goes by
+abbrev pub present : Rules
+present = record { read = readPeriod; conditions = conditionsOf }
+
 -- what is in force
-abbrev pub conditionsBy : Book → Conditions
-conditionsBy b = conditionsOf (b .road) (b .sheet)
+abbrev pub conditionsBy : Rules → Book → Conditions
+conditionsBy rules b = rules .conditions (b .road) (b .sheet)
+
+-- what the table says of taking a sheet
+abbrev pub takeBy : Rules → Book → (bytes : List ℕ) → Rows
+takeBy rules b bytes = takeVerdict (rules .read (b .road)) (b .taken) (b .made) bytes
 
 -- at first there is no sheet, and no step is made
 abbrev pub opened : List ℕ → Book
@@ -107,37 +120,45 @@ abbrev pub reportIn : Cell → InForce → Answer
 reportIn cell here = Reported (figuresOf cell) (levelOf (cell .n) (here .length) (here .lanes))
 
 -- the book with k steps more
-abbrev pub withSteps : ℕ → Book → Book
-withSteps k b = record { road = b .road; sheet = b .sheet; taken = b .taken; made = b .made + k; trail = moreSteps (conditionsBy b) k (b .trail) }
+abbrev pub withSteps : Rules → ℕ → Book → Book
+withSteps rules k b =
+    record { road = b .road; sheet = b .sheet; taken = b .taken; made = b .made + k; trail = moreSteps (conditionsBy rules b) k (b .trail) }
 
 -- Run k steps, by its verdict: the answer, and the book after it
 abbrev pub ranAs : Verdict → Answer
 ranAs GoesOn = Ran
 ranAs (RefusedBy number) = Refused number 0
 
-abbrev pub withRun : Book → ℕ → Verdict → Book
-withRun b k GoesOn = withSteps k b
-withRun b k (RefusedBy number) = b
+abbrev pub withRun : Rules → Book → ℕ → Verdict → Book
+withRun rules b k GoesOn = withSteps rules k b
+withRun rules b k (RefusedBy number) = b
 
 -- Segment report, by its verdict; segments are counted from 1
-abbrev pub reportedAs : Book → (segment : ℕ) → Verdict → Answer
-reportedAs b i GoesOn = reportIn (cellIn (stateAfter (b .trail)) (i - 1)) (inForceAt (conditionsBy b) (i - 1))
-reportedAs b i (RefusedBy number) = Refused number 0
+abbrev pub reportedAs : Rules → Book → (segment : ℕ) → Verdict → Answer
+reportedAs rules b i GoesOn = reportIn (cellIn (stateAfter (b .trail)) (i - 1)) (inForceAt (conditionsBy rules b) (i - 1))
+reportedAs rules b i (RefusedBy number) = Refused number 0
 
 -- the answer of a call, by the verdict of its table (9 never comes, for the road is laid)
-abbrev pub answer : Book → Call → Answer
-answer b (Take bytes) = takenAs (takeVerdict (b .road) (b .taken) (b .made) bytes)
-answer b (Run k) = ranAs (runVerdict (b .taken) (b .made) k)
-answer b (Report i) = reportedAs b i (reportVerdict (b .road) i)
-answer b Totals =
+abbrev pub answerBy : Rules → Book → Call → Answer
+answerBy rules b (Take bytes) = takenAs (takeBy rules b bytes)
+answerBy rules b (Run k) = ranAs (runVerdict (b .taken) (b .made) k)
+answerBy rules b (Report i) = reportedAs rules b i (reportVerdict (b .road) i)
+answerBy rules b Totals =
     Summed (arrivedIn (b .trail)) (leftIn (b .trail)) (storedOf (segments (b .road)) (stateAfter (b .trail))) (partstepsIn (b .trail))
 
 -- the book after a call: "a call that the tables refuse changes nothing, nor do a segment report and totals"
+abbrev pub afterBy : Rules → Book → Call → Book
+afterBy rules b (Take bytes) = withRow b (takeBy rules b bytes)
+afterBy rules b (Run k) = withRun rules b k (runVerdict (b .taken) (b .made) k)
+afterBy rules b (Report i) = b
+afterBy rules b Totals = b
+
+-- the same by the present rules
+abbrev pub answer : Book → Call → Answer
+answer = answerBy present
+
 abbrev pub after : Book → Call → Book
-after b (Take bytes) = withRow b (takeVerdict (b .road) (b .taken) (b .made) bytes)
-after b (Run k) = withRun b k (runVerdict (b .taken) (b .made) k)
-after b (Report i) = b
-after b Totals = b
+after = afterBy present
 
 -- a list of calls, from a book on: the answers, and the book at its end
 abbrev pub answers : Book → List Call → List Answer
@@ -155,7 +176,7 @@ usedBy (RefusedAt number offset) bytes before = before
 
 abbrev pub periodBytes : Book → (before : List ℕ) → List Call → List ℕ
 periodBytes b before [] = before
-periodBytes b before (Take bytes ∷ cs) = periodBytes (after b (Take bytes)) (usedBy (takeVerdict (b .road) (b .taken) (b .made) bytes) bytes before) cs
+periodBytes b before (Take bytes ∷ cs) = periodBytes (after b (Take bytes)) (usedBy (takeBy present b bytes) bytes before) cs
 periodBytes b before (Run k ∷ cs) = periodBytes (after b (Run k)) before cs
 periodBytes b before (Report i ∷ cs) = periodBytes b before cs
 periodBytes b before (Totals ∷ cs) = periodBytes b before cs

@@ -7,7 +7,6 @@ use mathlib.Core.List.{List}
 use lib.Dec.{leb, ltb, eqb}
 use Rattle.numbers.specs.Choice.{if_then_else_}
 use Rattle.numbers.specs.Row.{Rows, RefusedAt}
-use Rattle.sheets.specs.Read.{readPeriod}
 use Rattle.conditions.specs.Conditions.{segments}
 
 -- the call goes on, or it is refused by a number (its offset is 0)
@@ -28,12 +27,13 @@ outside low high k = ltb k low || ltb high k
 unfoldable pub unfinished : (taken made : ℕ) → Bool
 unfinished taken made = ltb 0 taken && ltb made 60
 
--- Take a period sheet: 12; 13, 96 periods are taken; then field by field 1, 2, 3 and 4 (14 for NS) with the field's offset
-unfoldable pub takeVerdict : (road : List ℕ) (taken made : ℕ) (bytes : List ℕ) → Rows
-takeVerdict road taken made bytes =
+-- Take a period sheet: 12; 13, 96 periods are taken; then field by field 1, 2, 3 and 4 (14 for NS) with the field's offset,
+-- by the reading of a sheet on the road
+unfoldable pub takeVerdict : (read : List ℕ → Rows) (taken made : ℕ) (bytes : List ℕ) → Rows
+takeVerdict read taken made bytes =
     if unfinished taken made then RefusedAt 12 0
     else if leb 96 taken then RefusedAt 13 0
-    else readPeriod road bytes
+    else read bytes
 
 -- Run k steps: 5, k is outside 1..60; 10, no period taken yet; 11, fewer than k steps remain in the period
 unfoldable pub runVerdict : (taken made k : ℕ) → Verdict

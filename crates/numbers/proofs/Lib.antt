@@ -1,3 +1,4 @@
+pub mod Choices
 pub mod Turns
 pub mod Fields
 pub mod Writings

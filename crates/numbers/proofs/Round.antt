@@ -10,7 +10,7 @@ use lib.ListN.{drop, take, length}
 use lib.Dec.{ltb}
 use lib.Seq.{drop-append-seam, getD-drop}
 use Rattle.numbers.specs.Choice.{if_then_else_}
-use Rattle.numbers.specs.Number.{Reading, Read, Refused, last, more, groups, placed, readNumber, bytesFrom, numberBytes, Bytes}
+use Rattle.numbers.specs.Number.{Reading, Read, Refused, last, more, groups, placed, readNumber, lowGroup, bytesFrom, numberBytes, Bytes}
 use Rattle.numbers.proofs.Turns.{top, top-least}
 use Rattle.numbers.proofs.Stores.{bytes-last}
 
@@ -107,3 +107,31 @@ read-writes s at v next by r =
     let h = groups-back 4 0 (drop at s) v (p .0) (omega arith) (λ i. rw getD-drop (by (at + i))) (p .1) in
     let e : next - at ≡ p .0 = omega (arith, p .2) in
     (rw (e, h .0), h .2, p .2 ∙ ap (_+_ at) (h .3))
+
+-- ---- written numbers are bytes
+bytes-one : (b : ℕ) → b < 256 → Bytes (b ∷ [])
+bytes-one b h zero = h
+bytes-one b h (suc i) = omega arith
+
+bytes-cons : (b : ℕ) (s : List ℕ) → b < 256 → Bytes s → Bytes (b ∷ s)
+bytes-cons b s h t zero = h
+bytes-cons b s h t (suc i) = t i
+
+bytes-by : (k v : ℕ) → v < top (suc k) → (v / 128 < top k → Bytes (bytesFrom k (v / 128))) → (t : Bool) → ltb v 128 ≡ t
+    → Bytes (if t then v ∷ [] else lowGroup v ∷ bytesFrom k (v / 128))
+unfolding top
+bytes-by k v h ih true t = bytes-one v (omega (arith, ltb-true v 128 t))
+bytes-by k v h ih false t = bytes-cons (lowGroup v) (bytesFrom k (v / 128)) (omega arith) (ih (omega arith))
+
+bytes-below : (k v : ℕ) → v < top k → Bytes (bytesFrom k v)
+unfolding bytesFrom top
+bytes-below zero v h = bytes-one v (omega arith)
+bytes-below (suc k) v h = bytes-by k v h (bytes-below k (v / 128)) (ltb v 128) refl
+
+pub number-bytes : (v : ℕ) → v < 2 ^ 32 → Bytes (numberBytes v)
+unfolding numberBytes top
+number-bytes v h = bytes-below 4 v h
+
+pub bytes-both : (xs ys : List ℕ) → Bytes xs → Bytes ys → Bytes (xs ++ ys)
+bytes-both [] ys a b = b
+bytes-both (x ∷ xs) ys a b = bytes-cons x (xs ++ ys) (a 0) (bytes-both xs ys (λ i. a (suc i)) b)

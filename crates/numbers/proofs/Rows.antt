@@ -97,6 +97,22 @@ then-back at (Read v n) rest row next e =
     (v, n, o .0, refl, o .1, o .2)
 then-back at (Refused x) rest row next e = absurd (let z : _≡_ {A = ℕ} 0 1 = cc in omega arith)
 
+first-onto : (field : ℕ → ℕ → Reading) (m k at v n : ℕ) (row more : List ℕ) (place : ℕ) → field k at ≡ Read v n → row ≡ v ∷ more
+    → fields field m (k + 1) n ≡ ReadRow (take m more) place → andThen at (field k at) (fields field m (k + 1)) ≡ ReadRow (take (suc m) row) place
+unfolding andThen onto
+first-onto field m k at v n row more place r e h = rw (r, e, h)
+
+-- the first m fields of a row that was read
+pub fields-first : (field : ℕ → ℕ → Reading) (m left k at : ℕ) (row : List ℕ) (next : ℕ) → m ≤ left → fields field left k at ≡ ReadRow row next
+    → (place : ℕ) × (fields field m k at ≡ ReadRow (take m row) place)
+unfolding fields andThen onto
+fields-first field zero left k at row next h e = (at, refl)
+fields-first field (suc m) zero k at row next h e = absurd (omega arith)
+fields-first field (suc m) (suc left) k at row next h e =
+    let g = then-back at (field k at) (fields field left (k + 1)) row next e in
+    let i = fields-first field m left (k + 1) (g .1) (g .2) next (omega arith) (g .4) in
+    (i .0, first-onto field m k at (g .0) (g .1) row (g .2) (i .0) (g .3) (g .5) (i .1))
+
 -- what holds of a number and those after it holds of all, and back
 pub each-cons : (P : ℕ → ℕ → Type 0) (k v : ℕ) (row : List ℕ) → P k v → Each P (k + 1) row → Each P k (v ∷ row)
 each-cons P k v row h t zero i = rw add-zero h

@@ -2,7 +2,7 @@
 use Prim.Native.Nat.{ℕ, _+_, _*_}
 use mathlib.Core.List.{List}
 use lib.ListN.{getD}
-use Rattle.sheets.specs.Layout.{lanesOf}
+use Rattle.sheets.specs.Layout.{lanesOf, openedOf}
 use Rattle.parts.specs.declared.RoadGlobals.{RoadGlobals}
 use Rattle.parts.specs.declared.Segment.{Segment}
 use Rattle.parts.specs.declared.PeriodGlobals.{PeriodGlobals}
@@ -38,5 +38,5 @@ unfoldable pub entryOf : List ℕ → ℕ → Entry
 entryOf period i = record {
   demand = getD period (3 + 3 * i) 0;
   meter = getD period (3 + 3 * i + 1) 0;
-  opened = getD period (3 + 3 * i + 2) 0;
+  opened = openedOf period i;
 }

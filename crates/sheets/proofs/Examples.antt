@@ -4,9 +4,9 @@ use Prim.Native.Nat.{ℕ}
 use mathlib.Core.List.{List, [], _∷_}
 use Rattle.numbers.specs.Number.{readNumber, groups, last, more, placed, numberBytes, bytesFrom}
 use Rattle.numbers.specs.Field.{inRange, readField}
-use Rattle.sheets.specs.Layout.{roadRange, periodRange, rangeOf, countOf}
+use Rattle.sheets.specs.Layout.{roadRange, periodRange, firstRange, rangeOf, countOf}
 use Rattle.numbers.specs.Row.{ReadRow, RefusedAt, onto, andThen, fields}
-use Rattle.sheets.specs.Read.{readRow, roadFrom, readRoad, readPeriod}
+use Rattle.sheets.specs.Read.{readRow, roadFrom, readRoad, readPeriod, readFirstPeriod}
 use Rattle.sheets.specs.Write.{rowBytes}
 
 -- the worked study's road and period
@@ -40,6 +40,19 @@ three-of-two-open = refl
 first-layout : readPeriod numbers (0x01 ∷ 0xC0 ∷ 0x25 ∷ 0x90 ∷ 0x4E ∷ 0x00 ∷ 0x00 ∷ []) ≡ RefusedAt 1 7
 unfolding numbers readPeriod readRow fields andThen onto readField inRange rangeOf countOf periodRange readNumber groups last more placed
 first-layout = refl
+
+-- in the first layout it is read whole, and one with open lanes has a byte more than its reading uses
+in-first-layout : readFirstPeriod numbers (0x01 ∷ 0xC0 ∷ 0x25 ∷ 0x90 ∷ 0x4E ∷ 0x00 ∷ 0x00 ∷ []) ≡ ReadRow (1 ∷ 4800 ∷ 10000 ∷ 0 ∷ 0 ∷ []) 7
+unfolding numbers readFirstPeriod readRow fields andThen onto readField inRange rangeOf countOf periodRange firstRange readNumber groups last more placed
+in-first-layout = refl
+
+open-lanes-left : readFirstPeriod numbers period ≡ ReadRow (1 ∷ 4800 ∷ 10000 ∷ 0 ∷ 0 ∷ []) 7
+unfolding numbers period readFirstPeriod readRow fields andThen onto readField inRange rangeOf countOf periodRange firstRange readNumber groups last more placed
+open-lanes-left = refl
+
+meter-too-large : readFirstPeriod numbers (0x01 ∷ 0xC0 ∷ 0x25 ∷ 0x90 ∷ 0x4E ∷ 0x00 ∷ 0x91 ∷ 0x4E ∷ []) ≡ RefusedAt 4 6
+unfolding numbers readFirstPeriod readRow fields andThen onto readField inRange rangeOf countOf periodRange firstRange readNumber groups last more placed
+meter-too-large = refl
 
 -- a segment of two lanes and one of four: both may be open whole, each by its own N
 own-lanes :

@@ -14,7 +14,7 @@ use Rattle.numbers.specs.Row.{RefusedAt}
 use Rattle.sheets.specs.Read.{fieldOf, readRow, roadFrom, readRoad, readPeriod}
 use Rattle.sheets.proofs.Ranges.{named}
 
-named-row : (l : Layout) (road s : List ℕ) → NamedRow (readRow l road s)
+pub named-row : (l : Layout) (road s : List ℕ) → NamedRow (readRow l road s)
 unfolding readRow
 named-row l road s = named-fields (fieldOf l road s) (λ k at. named-field (rangeOf l road k) s at (named l road k)) (countOf l) 0 0
 
@@ -23,7 +23,7 @@ unfolding roadFrom
 named-road s (Read ns n) h = named-row (Road ns) [] s
 named-road s (Refused e) h = h
 
-road-named : (s : List ℕ) → NamedRow (readRoad s)
+pub road-named : (s : List ℕ) → NamedRow (readRoad s)
 unfolding readRoad rangeOf
 road-named s = named-road s (readField (roadRange 0) s 0) (named-field (roadRange 0) s 0 (named (Road 0) [] 0))
 

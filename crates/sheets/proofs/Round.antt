@@ -2,7 +2,7 @@
 -- again is the bytes that its reading used. Once for every layout; a road's layout is known by its first number. A number of more than
 -- 32 bits has no bytes, so a period is written and read on a road whose lanes have no more.
 use mathlib.Core.Path.{_≡_, refl, sym, ap, _∙_}
-use Prim.Native.Nat.{ℕ, zero, suc, _+_, _-_, _^_, _≤_, _<_, min}
+use Prim.Native.Nat.{ℕ, zero, suc, _+_, _-_, _^_, _≤_, _<_}
 use mathlib.Core.List.{List, [], _∷_, _++_, append-assoc}
 use native.Mathlib.Nat.{zero-add, add-zero, add-assoc}
 use native.Mathlib.Omega.{arith}
@@ -13,15 +13,15 @@ use Rattle.numbers.specs.Field.{In, readField}
 use Rattle.numbers.proofs.Fields.{field-value, field-back}
 use Rattle.numbers.specs.Writing.{writeInto}
 use Rattle.numbers.proofs.Writings.{written}
-use Rattle.numbers.proofs.Round.{written-reads, read-writes}
+use Rattle.numbers.proofs.Round.{written-reads, read-writes, number-bytes, bytes-both}
 use Rattle.sheets.specs.declared.Layout.{Layout}
-use Rattle.sheets.specs.declared.Layout.the-variants.{Road, Period}
-use Rattle.sheets.specs.Layout.{roadRange, lanesOf, rangeOf, countOf, RowOf}
+use Rattle.sheets.specs.declared.Layout.the-variants.{Road, Period, FirstPeriod}
+use Rattle.sheets.specs.Layout.{roadRange, sameSegments, rangeOf, countOf, RowOf}
 use Rattle.numbers.specs.Row.{Each, ReadRow, onto, andThen, fields}
-use Rattle.numbers.proofs.Rows.{then-back, each-head, each-tail, fields-each}
-use Rattle.sheets.specs.Read.{fieldOf, readRow, roadFrom, readRoad, readPeriod, padded, sheetReading, readAs}
+use Rattle.numbers.proofs.Rows.{then-back, each-head, each-tail, fields-each, fields-first}
+use Rattle.sheets.specs.Read.{fieldOf, readRow, roadFrom, readRoad, readPeriod, readFirstPeriod, padded, sheetReading, readAs}
 use Rattle.sheets.specs.Write.{rowBytes, sheetRow, roadRow, periodRow}
-use Rattle.sheets.proofs.Ranges.{road-fits, period-fits, count-some, period-first}
+use Rattle.sheets.proofs.Ranges.{LanesFit, fits, count-some, period-first, first-start}
 use Rattle.sheets.proofs.Turns.{road-read}
 
 -- the number is in the range of its place
@@ -33,7 +33,7 @@ abbrev Writable : Layout → List ℕ → ℕ → ℕ → Type 0
 Writable l road k v = Ranged l road k v × (v < 2 ^ 32)
 
 -- all numbers of the row have
-abbrev Fitting : List ℕ → Type 0
+abbrev pub Fitting : List ℕ → Type 0
 Fitting row = Each (λ k v. v < 2 ^ 32) 0 row
 
 -- ---- what was written is read back
@@ -51,32 +51,23 @@ reads-fields l road (v ∷ row) k before rest h =
     let ih = simp (append-assoc, length-append, add-assoc) at more in
     simp (append-assoc, length-append) (rw (f, ih))
 
-written-row : (l : Layout) (road row rest : List ℕ) → RowOf l road row → Fitting row
+pub written-row : (l : Layout) (road row rest : List ℕ) → RowOf l road row → Fitting row
     → readRow l road (rowBytes row ++ rest) ≡ ReadRow row (length (rowBytes row))
 unfolding readRow
 written-row l road row rest h fit = rw (← (h .0)) (rw zero-add at (reads-fields l road row 0 [] rest (λ j i. (h .1 j i, fit j i))))
 
--- by its ranges a road's numbers have at most 32 bits, and a period's where its road's lanes have
-road-fitting : (ns : ℕ) (row : List ℕ) → RowOf (Road ns) [] row → Fitting row
-unfolding rangeOf
-road-fitting ns row h j i = omega (arith, road-fits (0 + j), h .1 j i .1)
+-- by its ranges a row's numbers have at most 32 bits, a period's where its road's lanes have
+pub fitting : (l : Layout) (road row : List ℕ) → LanesFit l road → RowOf l road row → Fitting row
+fitting l road row lanes h j i = omega (arith, fits l road lanes (0 + j) (omega (arith, h .0)), h .1 j i .1)
 
--- N of each segment has at most 32 bits
-abbrev pub LanesFit : List ℕ → Type 0
-LanesFit road = (i : ℕ) → i < min (getD road 0 0) 64 → lanesOf road i < 2 ^ 32
-
-period-fitting : (road row : List ℕ) → LanesFit road → RowOf (Period (getD road 0 0)) road row → Fitting row
-unfolding rangeOf
-period-fitting road row lanes h j i = omega (arith, period-fits (getD road 0 0) road lanes (0 + j) (omega (arith, h .0)), h .1 j i .1)
-
-written-road : (row rest : List ℕ) → RowOf (Road (getD row 0 0)) [] row → readRoad (rowBytes row ++ rest) ≡ ReadRow row (length (rowBytes row))
+pub written-road : (row rest : List ℕ) → RowOf (Road (getD row 0 0)) [] row → readRoad (rowBytes row ++ rest) ≡ ReadRow row (length (rowBytes row))
 unfolding rowBytes rangeOf countOf
 written-road [] rest h = absurd (omega (arith, h .0))
 written-road (ns ∷ row) rest h =
     let f : readField (roadRange 0) (numberBytes ns ++ (rowBytes row ++ rest)) 0 ≡ Read ns (0 + length (numberBytes ns)) =
-    value-reads (Road ns) [] 0 ns [] (rowBytes row ++ rest) (h .1 0 (omega arith), road-fitting ns (ns ∷ row) h 0 (omega arith)) in
+    value-reads (Road ns) [] 0 ns [] (rowBytes row ++ rest) (h .1 0 (omega arith), fitting (Road ns) [] (ns ∷ row) tt h 0 (omega arith)) in
     let g : readField (roadRange 0) ((numberBytes ns ++ rowBytes row) ++ rest) 0 ≡ Read ns (0 + length (numberBytes ns)) = rw append-assoc f in
-    road-read _ _ _ g ∙ written-row (Road ns) [] (ns ∷ row) rest h (road-fitting ns (ns ∷ row) h)
+    road-read _ _ _ g ∙ written-row (Road ns) [] (ns ∷ row) rest h (fitting (Road ns) [] (ns ∷ row) tt h)
 
 -- ---- what was read is the bytes of its row
 -- the bytes from `at` to next are the row's
@@ -116,7 +107,7 @@ row-ranged l road s row used e =
     fields-each (fieldOf l road s) (Ranged l road) (λ k at v next r. field-back (rangeOf l road k) s at v next r .1) (countOf l) 0 0 row used e
 
 -- what was read has at most 32 bits
-row-fitting : (l : Layout) (road s row : List ℕ) (used : ℕ) → Bytes s → readRow l road s ≡ ReadRow row used → Fitting row
+pub row-fitting : (l : Layout) (road s row : List ℕ) (used : ℕ) → Bytes s → readRow l road s ≡ ReadRow row used → Fitting row
 unfolding readRow
 row-fitting l road s row used by e =
     fields-each (fieldOf l road s) (λ k v. v < 2 ^ 32)
@@ -129,6 +120,23 @@ row-back l road s row used by e =
     let b = fields-back l road (countOf l) 0 s 0 row used by e in
     let u : used ≡ length (rowBytes row) = omega (arith, b .place) in
     (rw u (b .bytes), u)
+
+-- the numbers before a place are read up to where the bytes of these end
+pub row-first : (l : Layout) (road s row : List ℕ) (used m : ℕ) → Bytes s → readRow l road s ≡ ReadRow row used → m ≤ countOf l
+    → fields (fieldOf l road s) m 0 0 ≡ ReadRow (take m row) (length (rowBytes (take m row)))
+unfolding readRow
+row-first l road s row used m by e h =
+    let f = fields-first (fieldOf l road s) m (countOf l) 0 0 row used h e in
+    let b = fields-back l road m 0 s 0 (take m row) (f .0) by (f .1) in
+    f .1 ∙ ap (ReadRow (take m row)) (b .place ∙ zero-add (length (rowBytes (take m row))))
+
+-- written rows are bytes
+pub row-bytes : (row : List ℕ) → Fitting row → Bytes (rowBytes row)
+unfolding rowBytes
+row-bytes [] fit = λ i. omega arith
+row-bytes (v ∷ row) fit =
+    bytes-both (numberBytes v) (rowBytes row) (number-bytes v (each-head (λ k v. v < 2 ^ 32) 0 v row fit))
+    (row-bytes row (λ j h. each-tail (λ k v. v < 2 ^ 32) 0 v row fit j h))
 
 -- ---- the first number is NS
 first-number : (l : Layout) (road s row : List ℕ) (used ns n : ℕ) → readField (rangeOf l road 0) s 0 ≡ Read ns n → readRow l road s ≡ ReadRow row used → getD row 0 0 ≡ ns
@@ -149,7 +157,7 @@ from-back s (Read ns n) row used e = (ns, n, refl, e)
 from-back s (Refused x) row used e = absurd (let z : _≡_ {A = ℕ} 0 1 = cc in omega arith)
 
 -- a road that was read, by its own first number
-road-back : (s row : List ℕ) (used : ℕ) → readRoad s ≡ ReadRow row used → readRow (Road (getD row 0 0)) [] s ≡ ReadRow row used
+pub road-back : (s row : List ℕ) (used : ℕ) → readRoad s ≡ ReadRow row used → readRow (Road (getD row 0 0)) [] s ≡ ReadRow row used
 unfolding readRoad rangeOf
 road-back s row used e =
     let r = from-back s (readField (roadRange 0) s 0) row used e in
@@ -159,19 +167,28 @@ road-back s row used e =
 pub road-ranged : (s row : List ℕ) (used : ℕ) → readRoad s ≡ ReadRow row used → RowOf (Road (getD row 0 0)) [] row
 road-ranged s row used e = row-ranged (Road (getD row 0 0)) [] s row used (road-back s row used e)
 
-period-number : (ns : ℕ) (road row : List ℕ) → RowOf (Period ns) road row → getD row 0 0 ≡ ns
-unfolding rangeOf
-period-number ns road [] a = absurd (omega (arith, a .0, count-some (Period ns)))
-period-number ns road (v ∷ row) a =
-    let h = rw (period-first ns road 0 refl) at (each-head (Ranged (Period ns) road) 0 v row (a .1)) in
+-- a period's is the road's, in both layouts
+own-number : (l : Layout) (ns : ℕ) (road row : List ℕ) → rangeOf l road 0 ≡ sameSegments ns → RowOf l road row → getD row 0 0 ≡ ns
+own-number l ns road [] e a = absurd (omega (arith, a .0, count-some l))
+own-number l ns road (v ∷ row) e a =
+    let h = rw e at (each-head (Ranged l road) 0 v row (a .1)) in
     omega (arith, h .0, h .1)
 
 pub period-ranged : (road s row : List ℕ) (used : ℕ) → readPeriod road s ≡ ReadRow row used
     → RowOf (Period (getD road 0 0)) road row × (getD row 0 0 ≡ getD road 0 0)
-unfolding readPeriod
+unfolding readPeriod rangeOf
 period-ranged road s row used e =
-    let r = row-ranged (Period (getD road 0 0)) road s row used e in
-    (r, period-number (getD road 0 0) road row r)
+    let l = Period (getD road 0 0) in
+    let r = row-ranged l road s row used e in
+    (r, own-number l (getD road 0 0) road row (period-first (getD road 0 0) road 0 refl) r)
+
+first-period-ranged : (road s row : List ℕ) (used : ℕ) → readFirstPeriod road s ≡ ReadRow row used
+    → RowOf (FirstPeriod (getD road 0 0)) road row × (getD row 0 0 ≡ getD road 0 0)
+unfolding readFirstPeriod rangeOf
+first-period-ranged road s row used e =
+    let ns = getD road 0 0 in
+    let r = row-ranged (FirstPeriod ns) road s row used e in
+    (r, own-number (FirstPeriod ns) ns road row (first-start ns road 0 (omega arith) ∙ period-first ns road 0 refl) r)
 
 -- ---- the same of the code's rows, which have zeros after the sheet's numbers
 pub padded-row : (layout : ℕ → Layout) (row : List ℕ) → length row ≡ countOf (layout (getD row 0 0)) → sheetRow layout (padded row) ≡ row
@@ -192,15 +209,20 @@ module _ (buffer row : List ℕ) (at : ℕ) (room : at + length (rowBytes row) �
   unfolding sheetReading
   road-written-read h = rw (written-there buffer row at room, written-road row (drop (at + length (rowBytes row)) buffer) h)
 
-  fitting-written-read : (road : List ℕ) → RowOf (Period (getD road 0 0)) road row → Fitting row
-      → sheetReading (readPeriod road (drop at (writeInto buffer at (rowBytes row)))) ≡ readAs row (length (rowBytes row))
-  unfolding sheetReading readPeriod
-  fitting-written-read road h fit =
-      rw (written-there buffer row at room, written-row (Period (getD road 0 0)) road row (drop (at + length (rowBytes row)) buffer) h fit)
+  fitting-written-read : (l : Layout) (road : List ℕ) → RowOf l road row → Fitting row
+      → sheetReading (readRow l road (drop at (writeInto buffer at (rowBytes row)))) ≡ readAs row (length (rowBytes row))
+  unfolding sheetReading
+  fitting-written-read l road h fit = rw (written-there buffer row at room, written-row l road row (drop (at + length (rowBytes row)) buffer) h fit)
 
-  pub period-written-read : (road : List ℕ) → LanesFit road → RowOf (Period (getD road 0 0)) road row
+  pub period-written-read : (road : List ℕ) → LanesFit (Period (getD road 0 0)) road → RowOf (Period (getD road 0 0)) road row
       → sheetReading (readPeriod road (drop at (writeInto buffer at (rowBytes row)))) ≡ readAs row (length (rowBytes row))
-  period-written-read road lanes h = fitting-written-read road h (period-fitting road row lanes h)
+  unfolding readPeriod
+  period-written-read road lanes h = fitting-written-read (Period (getD road 0 0)) road h (fitting (Period (getD road 0 0)) road row lanes h)
+
+  pub first-period-written-read : (road : List ℕ) → RowOf (FirstPeriod (getD road 0 0)) road row
+      → sheetReading (readFirstPeriod road (drop at (writeInto buffer at (rowBytes row)))) ≡ readAs row (length (rowBytes row))
+  unfolding readFirstPeriod
+  first-period-written-read road h = fitting-written-read (FirstPeriod (getD road 0 0)) road h (fitting (FirstPeriod (getD road 0 0)) road row tt h)
 
 module _ (s row : List ℕ) (used : ℕ) (by : Bytes s) where
   pub road-read-written : readRoad s ≡ ReadRow row used → rowBytes (roadRow (sheetReading (readRoad s) .row)) ≡ take used s
@@ -209,12 +231,22 @@ module _ (s row : List ℕ) (used : ℕ) (by : Bytes s) where
       let back = row-back (Road (getD row 0 0)) [] s row used by (road-back s row used e) in
       rw (e, padded-row Road row (road-ranged s row used e .0)) (sym (back .0))
 
+  -- a sheet whose layout is by the number that it begins with
+  read-written : (layout : ℕ → Layout) (ns : ℕ) (road : List ℕ) → readRow (layout ns) road s ≡ ReadRow row used → getD row 0 0 ≡ ns
+      → rowBytes (sheetRow layout (sheetReading (readRow (layout ns) road s) .row)) ≡ take used s
+  unfolding sheetReading
+  read-written layout ns road e own =
+      let size : length row ≡ countOf (layout (getD row 0 0)) = rw own (row-ranged (layout ns) road s row used e .0) in
+      rw (e, padded-row layout row size) (sym (row-back (layout ns) road s row used by e .0))
+
   pub period-read-written : (road : List ℕ) → readPeriod road s ≡ ReadRow row used → rowBytes (periodRow (sheetReading (readPeriod road s) .row)) ≡ take used s
-  unfolding sheetReading readPeriod
-  period-read-written road e =
-      let p = period-ranged road s row used e in
-      let size : length row ≡ countOf (Period (getD row 0 0)) = rw (p .1) (p .0 .0) in
-      rw (e, padded-row Period row size) (sym (row-back (Period (getD road 0 0)) road s row used by e .0))
+  unfolding readPeriod
+  period-read-written road e = read-written Period (getD road 0 0) road e (period-ranged road s row used e .1)
+
+  pub first-period-read-written : (road : List ℕ) → readFirstPeriod road s ≡ ReadRow row used
+      → rowBytes (sheetRow FirstPeriod (sheetReading (readFirstPeriod road s) .row)) ≡ take used s
+  unfolding readFirstPeriod
+  first-period-read-written road e = read-written FirstPeriod (getD road 0 0) road e (first-period-ranged road s row used e .1)
 
   -- and what a reading used, written anywhere, reads back as the same sheet
   module _ (buffer : List ℕ) (at : ℕ) (room : at + length (take used s) ≤ length buffer) where
@@ -231,5 +263,5 @@ module _ (s row : List ℕ) (used : ℕ) (by : Bytes s) where
     period-again road e =
         let b = row-back (Period (getD road 0 0)) road s row used by e in
         let fit = row-fitting (Period (getD road 0 0)) road s row used by e in
-        let w = fitting-written-read buffer row at (rw (b .0) at room) road (period-ranged road s row used e .0) fit in
+        let w = fitting-written-read buffer row at (rw (b .0) at room) (Period (getD road 0 0)) road (period-ranged road s row used e .0) fit in
         rw (e, b .0) (w ∙ ap (readAs row) (sym (b .1)))

@@ -1,6 +1,6 @@
 -- Laws of the loops: one turn of the reader of a row, one of its writer.
 use mathlib.Core.Path.{_≡_, refl, sym, ap, _∙_}
-use Prim.Native.Nat.{ℕ, zero, suc, _+_, _/_, _≤_, _<_}
+use Prim.Native.Nat.{ℕ, zero, suc, _+_, _*_, _/_, _≤_, _<_}
 use mathlib.Core.Bool.{Bool, true, false}
 use mathlib.Core.List.{List, [], _∷_, _++_, append-assoc, append-nil}
 use native.Mathlib.Numerals.{add-one}
@@ -68,6 +68,30 @@ bytes-most (suc k) v = by-test k v (bytes-most k (v / 128)) (ltb v 128)
 pub number-most : (v : ℕ) → length (numberBytes v) ≤ 5
 unfolding numberBytes
 number-most v = bytes-most 4 v
+
+bytes-some : (k v : ℕ) → 1 ≤ length (bytesFrom k v)
+unfolding bytesFrom
+bytes-some zero v = omega arith
+bytes-some (suc k) v = by-test k v (ltb v 128)
+  where
+    by-test : (k v : ℕ) (t : Bool) → 1 ≤ length (if t then v ∷ [] else lowGroup v ∷ bytesFrom k (v / 128))
+    by-test k v true = omega arith
+    by-test k v false = omega arith
+
+pub number-some : (v : ℕ) → 1 ≤ length (numberBytes v)
+unfolding numberBytes
+number-some v = bytes-some 4 v
+
+-- a row has at least a byte, and at most five for each number
+pub row-some : (row : List ℕ) → 0 < length row → 1 ≤ length (rowBytes row)
+unfolding rowBytes
+row-some [] h = absurd (omega arith)
+row-some (v ∷ row) h = rw length-append (omega (arith, number-some v))
+
+pub row-most : (row : List ℕ) → length (rowBytes row) ≤ 5 * length row
+unfolding rowBytes
+row-most [] = omega arith
+row-most (v ∷ row) = rw length-append (omega (arith, number-most v, row-most row))
 
 pub bytes-append : (xs ys : List ℕ) → rowBytes (xs ++ ys) ≡ rowBytes xs ++ rowBytes ys
 unfolding rowBytes

@@ -1,4 +1,5 @@
--- Document 01, "Road sheet" and "Period sheet", and document 02, Q-1, open lanes: how many numbers each has, and the range of each place.
+-- Document 01, "Road sheet" and "Period sheet", and document 02, Q-1, open lanes, and Q-2, the layout before these: how many numbers each
+-- has, and the range of each place.
 use Prim.Native.Nat.{ℕ, _+_, _-_, _*_, _/_, _%_, min, max}
 use mathlib.Core.List.{List, [], _∷_}
 use lib.ListN.{getD, length}
@@ -6,7 +7,7 @@ use lib.Dec.{ltb, eqb}
 use Rattle.numbers.specs.Choice.{if_then_else_}
 use Rattle.numbers.specs.declared.Range.{Range}
 use Rattle.sheets.specs.declared.Layout.{Layout}
-use Rattle.sheets.specs.declared.Layout.the-variants.{Road, Period}
+use Rattle.sheets.specs.declared.Layout.the-variants.{Road, Period, FirstPeriod}
 use Rattle.numbers.specs.Field.{In}
 use Rattle.numbers.specs.Row.{Each}
 use mathlib.Core.Path.{_≡_}
@@ -44,6 +45,10 @@ entryTable n = 0 to 10000 ∷ 0 to 10000 ∷ 1 to n ∷ []
 abbrev pub lanesOf : (road : List ℕ) → ℕ → ℕ
 lanesOf road i = getD road (4 + 7 * i + 1) 0
 
+-- the open lanes of segment i in a period, counted from 0
+abbrev pub openedOf : (period : List ℕ) → ℕ → ℕ
+openedOf period i = getD period (3 + 3 * i + 2) 0
+
 -- NS; mainline demand and exit capacity X; then the entry of each segment, by N of that segment of the road
 unfoldable pub periodRange : ℕ → (road : List ℕ) → ℕ → Range
 periodRange ns road k =
@@ -51,15 +56,21 @@ periodRange ns road k =
     else if ltb k 3 then 0 to 20000
     else getD (entryTable (lanesOf road ((k - 3) / 3))) ((k - 3) % 3) noRange
 
+-- a period in the first layout, without open lanes: NS, mainline demand and X as above, then ramp demand and meter rate of each segment
+unfoldable pub firstRange : ℕ → (road : List ℕ) → ℕ → Range
+firstRange ns road k = if ltb k 3 then periodRange ns road k else 0 to 10000
+
 -- the range of the place k: a period's by NS and by its road, a road's own by no road
 unfoldable pub rangeOf : Layout → (road : List ℕ) → ℕ → Range
 rangeOf (Road ns) road k = roadRange k
 rangeOf (Period ns) road k = periodRange ns road k
+rangeOf (FirstPeriod ns) road k = firstRange ns road k
 
 -- how many numbers; no sheet has more than 64 segments
 unfoldable pub countOf : Layout → ℕ
 countOf (Road ns) = 4 + 7 * min ns 64
 countOf (Period ns) = 3 + 3 * min ns 64
+countOf (FirstPeriod ns) = 3 + 2 * min ns 64
 
 -- a row of the layout: so many numbers, each in the range of its place
 abbrev pub RowOf : Layout → (road row : List ℕ) → Type 0

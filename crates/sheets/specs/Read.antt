@@ -1,4 +1,5 @@
--- Document 01, "Sheets in seven-bit numbers": what reading a road or a period sheet gives (the period with document 02, Q-1, open lanes).
+-- Document 01, "Sheets in seven-bit numbers": what reading a road or a period sheet gives (the period with document 02, Q-1, open lanes, and in
+-- the first layout, Q-2).
 use Prim.Native.Nat.{ℕ}
 use mathlib.Core.List.{List, []}
 use lib.ListN.{replicate, getD}
@@ -6,7 +7,7 @@ use Rattle.numbers.specs.Number.{Reading, Read, Refused}
 use Rattle.numbers.specs.Field.{readField}
 use Rattle.numbers.specs.Row.{Rows, ReadRow, RefusedAt, fields, paddedTo}
 use Rattle.sheets.specs.declared.Layout.{Layout}
-use Rattle.sheets.specs.declared.Layout.the-variants.{Road, Period}
+use Rattle.sheets.specs.declared.Layout.the-variants.{Road, Period, FirstPeriod}
 use Rattle.sheets.specs.declared.SheetReading.{SheetReading}
 use Rattle.sheets.specs.Layout.{roadRange, rangeOf, countOf}
 
@@ -29,6 +30,10 @@ readRoad bytes = roadFrom bytes (readField (roadRange 0) bytes 0)
 -- a period of a road, by the road's NS, its first number, and its lanes
 unfoldable pub readPeriod : (road bytes : List ℕ) → Rows
 readPeriod road bytes = readRow (Period (getD road 0 0)) road bytes
+
+-- the same in the first layout
+unfoldable pub readFirstPeriod : (road bytes : List ℕ) → Rows
+readFirstPeriod road bytes = readRow (FirstPeriod (getD road 0 0)) road bytes
 
 -- a row with zeros after it, to the 452 places of the largest road
 abbrev pub padded : List ℕ → List ℕ

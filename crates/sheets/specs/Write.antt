@@ -12,6 +12,11 @@ unfoldable pub rowBytes : List ℕ → List ℕ
 rowBytes [] = []
 rowBytes (v ∷ row) = numberBytes v ++ rowBytes row
 
+-- the bytes of several rows, one after the other
+unfoldable pub rowsBytes : List (List ℕ) → List ℕ
+rowsBytes [] = []
+rowsBytes (row ∷ rows) = rowBytes row ++ rowsBytes rows
+
 -- the numbers of a sheet without the zeros after them: its first number, NS, gives the layout
 unfoldable pub sheetRow : (ℕ → Layout) → List ℕ → List ℕ
 sheetRow layout row = take (countOf (layout (getD row 0 0))) row

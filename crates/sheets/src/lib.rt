@@ -6,17 +6,18 @@ use numbers::Number;
 use numbers::Range;
 use numbers::Written;
 ghost use mathlib.Core.Path.{_≡_};
-ghost use Prim.Native.Nat.{_<_};
-ghost use lib.ListN.{take};
+ghost use Prim.Native.Nat.{_<_, _≤_};
+ghost use lib.ListN.{length, take};
 ghost use Rattle.numbers.specs.Writing.{writing, writeAnswer, writeInto};
 ghost use Rattle.sheets.specs.Layout.{rangeOf, countOf};
-ghost use Rattle.sheets.specs.Read.{readRow, readRoad, readPeriod, sheetReading};
+ghost use Rattle.sheets.specs.Read.{readRow, readRoad, readPeriod, readFirstPeriod, sheetReading};
 ghost use Rattle.sheets.specs.Write.{rowBytes, roadRow, periodRow};
 
-// A road of so many segments, or a period of a road of so many.
+// A road of so many segments, or a period of a road of so many; the first layout of a period has no open lanes.
 pub enum Layout {
     Road(u32),
     Period(u32),
+    FirstPeriod(u32),
 }
 
 // What reading a sheet gives, its numbers in field order with zeros after them: refusal is 0, or its number, with the offset of the
@@ -35,6 +36,7 @@ pub fn count(layout: Layout) -> usize
     match layout {
         Layout::Road(ns) => 4 + 7 * places::segments(ns),
         Layout::Period(ns) => 3 + 3 * places::segments(ns),
+        Layout::FirstPeriod(ns) => 3 + 2 * places::segments(ns),
     }
 }
 
@@ -46,6 +48,7 @@ pub fn range_at(layout: Layout, road: &[u32; 452], k: usize) -> Range
     match layout {
         Layout::Road(_) => places::road_range(k),
         Layout::Period(ns) => places::period_range(ns, road, k),
+        Layout::FirstPeriod(ns) => places::first_range(ns, road, k),
     }
 }
 
@@ -109,8 +112,23 @@ pub fn read_period(bytes: &[u8], road: &[u32; 452]) -> SheetReading
     read_row(bytes, Layout::Period(road[0]), road)
 }
 
+// Reads a period sheet of a road in the first layout.
+pub fn read_first_period(bytes: &[u8], road: &[u32; 452]) -> SheetReading
+    ensures { λ r. ⌜ r ≡ sheetReading (readFirstPeriod (now (road .entry)) (now (bytes .entry))) ⌝ }
+{
+    read_row(bytes, Layout::FirstPeriod(road[0]), road)
+}
+
+// How many bytes the first n numbers of a row take.
+pub fn bytes_of(row: [u32; 452], n: usize) -> usize
+    requires { ⌜ n ≤ 452 ⌝ }
+    ensures { λ r. ⌜ r ≡ length (rowBytes (take n row)) ⌝ }
+{
+    writing::row_length(&row[..n])
+}
+
 // Writes the numbers of a row that its layout counts.
-fn write_sheet(buffer: &mut [u8], at: usize, layout: Layout, row: [u32; 452]) -> Written
+pub fn write_sheet(buffer: &mut [u8], at: usize, layout: Layout, row: [u32; 452]) -> Written
     ensures { λ r. ⌜ (writing r ≡ writeAnswer (now (buffer .entry)) at (rowBytes (take (countOf layout) row)))
         × (now (buffer .exit) ≡ writeInto (now (buffer .entry)) at (rowBytes (take (countOf layout) row))) ⌝ }
 {

@@ -3,7 +3,7 @@ use numbers::Range;
 ghost use mathlib.Core.Path.{_≡_};
 ghost use Prim.Native.Nat.{_<_, min, max};
 ghost use lib.ListN.{getD};
-ghost use Rattle.sheets.specs.Layout.{segmentTable, roadTable, roadRange, entryTable, lanesOf, periodRange, noRange};
+ghost use Rattle.sheets.specs.Layout.{segmentTable, roadTable, roadRange, entryTable, lanesOf, periodRange, firstRange, noRange};
 
 // L, N, V, C, R, s, F of a segment.
 const SEGMENT: [Range; 7] = [
@@ -157,4 +157,19 @@ pub fn period_range(ns: u32, road: &[u32; 452], k: usize) -> Range
         };
     }
     entry_range(road, (k - 3) / 3, (k - 3) % 3)
+}
+
+// The same in the first layout: after the first three numbers ramp demands and meter rates.
+pub fn first_range(ns: u32, road: &[u32; 452], k: usize) -> Range
+    requires { ⌜ k < 452 ⌝ }
+    ensures { λ r. ⌜ r ≡ firstRange ns (now (road .entry)) k ⌝ }
+{
+    if k < 3 {
+        return period_range(ns, road, k);
+    }
+    Range {
+        low: 0,
+        high: 10000,
+        refusal: 4,
+    }
 }

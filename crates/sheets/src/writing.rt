@@ -8,7 +8,7 @@ ghost use Rattle.numbers.specs.Writing.{writing, writeAnswer, writeInto};
 ghost use Rattle.sheets.specs.Write.{rowBytes};
 
 // How many bytes the numbers take.
-fn row_length(row: &[u32]) -> usize
+pub fn row_length(row: &[u32]) -> usize
     ensures { λ r. ⌜ r ≡ length (rowBytes (now (row .entry))) ⌝ }
 {
     let mut n: usize = 0;

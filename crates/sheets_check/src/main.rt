@@ -1,5 +1,5 @@
 // Reads and writes numbers and sheets, good and damaged, as the records on standard input say, one a line, and prints each with its answer:
-//     read-number HEX PLACE    write-number VALUE ROOM PLACE    read-road HEX    read-period HEX ROAD
+//     read-number HEX PLACE    write-number VALUE ROOM PLACE    read-road HEX    read-period HEX ROAD    read-first-period HEX ROAD
 //     write-road HEX ROOM PLACE    write-period HEX ROAD ROOM PLACE
 // Numbers that are not given are 0, and those that a call has no use for are not looked at.
 // HEX is bytes in hexadecimal, `-` for none; ROAD is those of a road sheet, and one that is refused is a road of zeros. A sheet is written
@@ -19,6 +19,7 @@ enum Call {
     WriteNumber,
     ReadRoad,
     ReadPeriod,
+    ReadFirstPeriod,
     WriteRoad,
     WritePeriod,
     Other,
@@ -53,6 +54,9 @@ fn call_of(name: &[u8]) -> Call {
     }
     if text::same(name, b"read-period") {
         return Call::ReadPeriod;
+    }
+    if text::same(name, b"read-first-period") {
+        return Call::ReadFirstPeriod;
     }
     writing_of(name)
 }
@@ -107,21 +111,26 @@ fn shown(refusal: u8, count: usize) -> usize {
     if refusal == 0 { count } else { 0 }
 }
 
+fn say_in(layout: Layout, sheet: SheetReading) {
+    say_sheet(sheet, shown(sheet.refusal, sheets::count(layout)));
+}
+
 fn read_road(bytes: &[u8]) {
     let sheet = sheets::read_road(bytes);
     let row = sheet.row;
-    say_sheet(
-        sheet,
-        shown(sheet.refusal, sheets::count(Layout::Road(row[0]))),
-    );
+    say_in(Layout::Road(row[0]), sheet);
 }
 
-fn say_period(sheet: SheetReading) {
+fn read_period(bytes: &[u8], road: &[u32; 452]) {
+    let sheet = sheets::read_period(bytes, road);
     let row = sheet.row;
-    say_sheet(
-        sheet,
-        shown(sheet.refusal, sheets::count(Layout::Period(row[0]))),
-    );
+    say_in(Layout::Period(row[0]), sheet);
+}
+
+fn read_first_period(bytes: &[u8], road: &[u32; 452]) {
+    let sheet = sheets::read_first_period(bytes, road);
+    let row = sheet.row;
+    say_in(Layout::FirstPeriod(row[0]), sheet);
 }
 
 fn write_number(buffer: &mut [u8], at: usize, value: u32) {
@@ -195,10 +204,10 @@ fn play_period(call: Call, word: &[u8], road: Road, more: Numbers) {
         return;
     }
     let row = road.row;
-    let sheet = sheets::read_period(&bytes[0..n], &row);
     match call {
-        Call::ReadPeriod => say_period(sheet),
-        _ => play_sheet(false, sheet, more),
+        Call::ReadPeriod => read_period(&bytes[0..n], &row),
+        Call::ReadFirstPeriod => read_first_period(&bytes[0..n], &row),
+        _ => play_sheet(false, sheets::read_period(&bytes[0..n], &row), more),
     }
 }
 
@@ -250,7 +259,7 @@ fn play(record: &[u8]) {
     let end = given.end;
     let call = call_of(&record[from..to]);
     match call {
-        Call::ReadPeriod | Call::WritePeriod => {
+        Call::ReadPeriod | Call::ReadFirstPeriod | Call::WritePeriod => {
             play_on_road(call, &record[start..end], &record[end..])
         }
         _ => play_call(call, &record[start..end], &record[end..]),

@@ -1,4 +1,3 @@
-pub mod Within
 pub mod Lines
 pub mod Periods
 pub mod Numbers

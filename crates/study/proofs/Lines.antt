@@ -15,7 +15,7 @@ use Rattle.facility.specs.declared.SegmentReport.{SegmentReport}
 use Rattle.door.specs.Sound.{sound}
 use Rattle.facility.specs.Calls.{reportOf}
 use Rattle.facility.specs.Answers.{reportSays}
-use Rattle.facility.specs.Ledger.{Report, Book, answer}
+use Rattle.facility.specs.Ledger.{Report, Book, present, answer}
 use Rattle.facility.proofs.Cases.{report-by, totals-sound}
 use Rattle.facility.proofs.Verdicts.{report-goes}
 use Rattle.facility.proofs.Trail.{KeptBook}
@@ -48,7 +48,7 @@ lines-same : (g h : ℕ → Line) (k : ℕ) → ((i : ℕ) → g i ≡ h i) → 
 lines-same g h k e = ap (λ (x : ℕ → Line). linesBy x k) (fun-ext e)
 
 -- the facility that shows a book shows the book's listing
-pub shows : (b : Book) → KeptBook b → shown (view b) ≡ listed b
+pub shows : (b : Book) → KeptBook b → shown (view b) ≡ listed present b
 unfolding shown listed lineAt
 shows b f =
     let lines =

@@ -1,57 +1,28 @@
 -- The numbers of a forecast, as they are put into `out`: the first eight, then three for each line.
 use Prim.Native.Nat.{ℕ, zero, suc, _+_, _*_, _≤_, _<_}
-use mathlib.Core.Bool.{Bool, true, false}
 use mathlib.Core.Path.{_≡_, refl, sym, ap, _∙_}
 use mathlib.Core.List.{List, [], _∷_, _++_}
 use native.Mathlib.Omega.{arith}
 use lib.ListN.{length, take, drop, getD, set, take-append-drop, length-append}
 use lib.Seq.{drop-drop, take-at, drop-at, take-all, length-take-le, sets-eq}
-use lib.Dec.{ltb}
 use borrow.Author.Tests.{lt-ltb, le-ltb}
-use Rattle.numbers.specs.Choice.{if_then_else_}
 use Rattle.numbers.proofs.Stores.{storedTo, store-rest, store-more}
-use Rattle.numbers.specs.Row.{Rows, ReadRow, RefusedAt}
-use Rattle.sheets.specs.Read.{readRoad, padded}
-use Rattle.facility.specs.Ledger.{Take, Answer, Refused, Taken, Ran, Reported, Summed, Book, opened, answer}
+use Rattle.facility.specs.Ledger.{Rules, present}
 use Rattle.study.specs.declared.Line.{Line}
 use Rattle.study.specs.declared.Listing.{Listing}
-use Rattle.study.specs.Forecast.{noLine, listed, refusedListing, afterSheet, wholePeriod, periods, onRoad, forecastOf}
+use Rattle.study.specs.Forecast.{noLine, listed, refusedListing, Outcome, Ended, RefusedStudy, listing, outcomeBy, forecastBy, forecastOf}
 use Rattle.study.specs.Export.{lineNumbers, listingNumbers, room, exportAnswer, exportInto}
 use Rattle.study.proofs.Lines.{lines-length}
 
 -- ---- every forecast has 64 lines, and so 200 numbers
-after-lines : (a : Answer) (at : ℕ) (on : ℕ → Listing) → ((n : ℕ) → length (on n .lines) ≡ 64) → length (afterSheet a at on .lines) ≡ 64
-unfolding refusedListing
-after-lines (Taken used) at on h = h (at + used)
-after-lines (Refused number offset) at on h = refl
-after-lines Ran at on h = h at
-after-lines (Reported figures level) at on h = h at
-after-lines (Summed arrived left stored partsteps) at on h = h at
-
-listed-lines : (b : Book) → length (listed b .lines) ≡ 64
-unfolding listed
-listed-lines b = lines-length _ _
-
-either-lines : (t : Bool) (x y : Listing) → length (x .lines) ≡ 64 → length (y .lines) ≡ 64 → length ((if t then x else y) .lines) ≡ 64
-either-lines true x y p q = p
-either-lines false x y p q = q
-
-periods-lines : (most : ℕ) (b : Book) (bytes : List ℕ) (at : ℕ) → length (periods most b bytes at .lines) ≡ 64
-unfolding periods
-periods-lines zero b bytes at = listed-lines b
-periods-lines (suc most) b bytes at =
-    either-lines (ltb at (length bytes)) _ _
-    (after-lines (answer b (Take (drop at bytes))) at _ (periods-lines most (wholePeriod b (drop at bytes)) bytes))
-    (listed-lines b)
-
-road-lines : (bytes : List ℕ) (r : Rows) → length (onRoad bytes r .lines) ≡ 64
-unfolding refusedListing
-road-lines bytes (ReadRow row used) = periods-lines 97 (opened (padded row)) bytes used
-road-lines bytes (RefusedAt number offset) = refl
+outcome-lines : (rules : Rules) (o : Outcome) → length (listing rules o .lines) ≡ 64
+unfolding listed refusedListing
+outcome-lines rules (Ended b) = lines-length _ _
+outcome-lines rules (RefusedStudy number place) = refl
 
 pub forecast-lines : (bytes : List ℕ) → length (forecastOf bytes .lines) ≡ 64
-unfolding forecastOf
-forecast-lines bytes = road-lines bytes (readRoad bytes)
+unfolding forecastBy
+forecast-lines bytes = outcome-lines present (outcomeBy present bytes)
 
 line-count : (ls : List Line) → length (lineNumbers ls) ≡ 3 * length ls
 unfolding lineNumbers

@@ -4,8 +4,7 @@ use mathlib.Core.Bool.{Bool, true, false, _&&_}
 use mathlib.Core.Path.{_≡_, refl, sym, ap, _∙_}
 use mathlib.Core.List.{List}
 use native.Mathlib.Omega.{arith}
-use lib.ListN.{length, take, drop, length-drop}
-use lib.Seq.{take-all}
+use lib.ListN.{length, drop, length-drop}
 use lib.Dec.{leb, ltb}
 use borrow.Author.Tests.{lt-ltb, le-ltb, eq-eqb, ne-eqb}
 use Rattle.numbers.specs.Choice.{if_then_else_}
@@ -18,7 +17,7 @@ use Rattle.door.specs.declared.Facility.{Facility}
 use Rattle.facility.specs.declared.Reply.{Reply}
 use Rattle.door.specs.Sound.{sound}
 use Rattle.facility.specs.Calls.{laidBy, layOf, takeOf, runOf}
-use Rattle.facility.specs.Ledger.{Take, Run, Answer, Refused, Taken, Ran, Reported, Summed, Book, opened, takenAs, withRow, ranAs, withRun, answer, after}
+use Rattle.facility.specs.Ledger.{Take, Run, Answer, Refused, Taken, Ran, Reported, Summed, Book, Rules, present, takeBy, opened, takenAs, withRow, ranAs, withRun, answerBy, afterBy, answer, after}
 use Rattle.facility.specs.Verdicts.{Verdict, GoesOn, unfinished, takeVerdict, runVerdict}
 use Rattle.facility.proofs.Verdicts.{run-goes}
 use Rattle.facility.specs.View.{view}
@@ -26,9 +25,9 @@ use Rattle.facility.specs.Answers.{takeSays}
 use Rattle.facility.proofs.Trail.{KeptBook, kept-opened, kept-after}
 use Rattle.facility.proofs.OneCall.{view-opened, sound-view, takes, runs}
 use Rattle.facility.proofs.Lists.{run-keeps}
-use Rattle.study.specs.Forecast.{listed, refusedListing, afterSheet, whole, wholePeriod, periods, onRoad, forecastOf}
+use Rattle.study.specs.Forecast.{refusedListing, Ended, listing, afterSheet, whole, wholePeriod, periods, onRoad, outcomeBy, forecastBy, forecastOf}
 use Rattle.study.specs.Shown.{shown}
-use Rattle.study.proofs.Within.{RowWithin, road-within, period-within}
+use Rattle.sheets.proofs.Within.{RowWithin, road-within, period-within}
 use Rattle.study.proofs.Lines.{shows}
 
 -- ---- the ledger's taking and running
@@ -52,7 +51,7 @@ verdict-within m r false false h = h
 take-within : (b : Book) (s : List ℕ) → AnswerWithin (length s) (answer b (Take s))
 unfolding takeVerdict
 take-within b s =
-    read-within (length s) (takeVerdict (b .road) (b .taken) (b .made) s)
+    read-within (length s) (takeBy present b s)
     (verdict-within (length s) (readPeriod (b .road) s) (unfinished (b .taken) (b .made)) (leb 96 (b .taken)) (period-within (b .road) s))
 
 -- a sheet that is taken is counted, with no step made under it
@@ -68,27 +67,27 @@ and-false : (t : Bool) → (t && false) ≡ false
 and-false true = refl
 and-false false = refl
 
-finished : (taken made : ℕ) → 60 ≤ made → unfinished taken made ≡ false
+pub finished : (taken made : ℕ) → 60 ≤ made → unfinished taken made ≡ false
 unfolding unfinished
 finished taken made h = rw (le-ltb made 60 h) (and-false (ltb 0 taken))
 
-module _ (b : Book) (s : List ℕ) (used : ℕ) (e : answer b (Take s) ≡ Taken used) where
-  begun : Begun b (after b (Take s))
-  begun = begun-row b (takeVerdict (b .road) (b .taken) (b .made) s) used e
+module _ (rules : Rules) (b : Book) (s : List ℕ) (used : ℕ) (e : answerBy rules b (Take s) ≡ Taken used) where
+  begun : Begun b (afterBy rules b (Take s))
+  begun = begun-row b (takeBy rules b s) used e
 
   -- "runs every period whole": right after a sheet is taken, a run of the period's steps is never refused
-  goes-whole : runVerdict (after b (Take s) .taken) (after b (Take s) .made) whole ≡ GoesOn
+  pub goes-whole : runVerdict (afterBy rules b (Take s) .taken) (afterBy rules b (Take s) .made) whole ≡ GoesOn
   unfolding Begun
   goes-whole = run-goes _ _ whole (omega arith) (omega arith) (λ z. omega (arith, begun .0)) (omega (arith, begun .1))
 
-  pub run-whole : answer (after b (Take s)) (Run whole) ≡ Ran
+  pub run-whole : answerBy rules (afterBy rules b (Take s)) (Run whole) ≡ Ran
   run-whole = ap ranAs goes-whole
 
   -- and after it no step is left, so that no taking of a study is refused by 12
-  run-out : unfinished (wholePeriod b s .taken) (wholePeriod b s .made) ≡ false
+  run-out : unfinished (wholePeriod rules b s .taken) (wholePeriod rules b s .made) ≡ false
   run-out =
-      let next = after b (Take s) in
-      ap (λ (v : Verdict). unfinished (withRun next whole v .taken) (withRun next whole v .made)) goes-whole
+      let next = afterBy rules b (Take s) in
+      ap (λ (v : Verdict). unfinished (withRun rules next whole v .taken) (withRun rules next whole v .made)) goes-whole
       ∙ finished (next .taken) (next .made + whole) (omega arith)
 
 -- ---- a study on its way, at a place of its bytes
@@ -100,10 +99,10 @@ pub record Turn (bytes : List ℕ) (f : Facility) (at : ℕ) : Type 0 where
   pub most : ℕ
   pub count : most + book .taken ≡ 97
   pub up-to : at ≤ length bytes
-  pub rest : forecastOf bytes ≡ periods most book bytes at
+  pub rest : outcomeBy present bytes ≡ periods present most book bytes at
 
 laid-by : (bytes : List ℕ) (r : Rows) → readRoad bytes ≡ r → (laid : Reply) → laid ≡ laidBy r → laid .refusal ≡ 0 → Turn bytes (laid .facility) (laid .used)
-unfolding forecastOf unfinished
+unfolding outcomeBy unfinished
 laid-by bytes (ReadRow row used) e laid is z =
     let end : laid .used ≡ used = ap (λ (q : Reply). q .used) is in
     record {
@@ -114,7 +113,7 @@ laid-by bytes (ReadRow row used) e laid is z =
       most = 97;
       count = refl;
       up-to = omega (arith, rw e at (road-within bytes));
-      rest = ap (onRoad bytes) e ∙ ap (periods 97 (opened (padded row)) bytes) (sym end);
+      rest = ap (onRoad present bytes) e ∙ ap (periods present 97 (opened (padded row)) bytes) (sym end);
     }
 laid-by bytes (RefusedAt number offset) e laid is z = absurd (omega (arith, road-refusal bytes number offset e, ap (λ (q : Reply). q .refusal) is))
 
@@ -124,34 +123,32 @@ unfolding layOf
 begins bytes laid is z = laid-by bytes (readRoad bytes) refl laid is z
 
 not-laid-by : (bytes : List ℕ) (r : Rows) (laid : Reply) → laid ≡ laidBy r → (laid .refusal ≡ 0 → ⊥)
-    → refusedListing (laid .refusal) (laid .offset) ≡ onRoad bytes r
+    → refusedListing (laid .refusal) (laid .offset) ≡ listing present (onRoad present bytes r)
 not-laid-by bytes (ReadRow row used) laid is n = absurd (n (ap (λ (q : Reply). q .refusal) is))
 not-laid-by bytes (RefusedAt number offset) laid is n = ap (λ (q : Reply). refusedListing (q .refusal) (q .offset)) is
 
 pub not-begun : (bytes : List ℕ) (laid : Reply) → laid ≡ layOf bytes → (laid .refusal ≡ 0 → ⊥)
     → refusedListing (laid .refusal) (laid .offset) ≡ forecastOf bytes
-unfolding layOf forecastOf
+unfolding layOf outcomeBy forecastBy
 not-begun bytes laid is n = not-laid-by bytes (readRoad bytes) laid is n
 
--- the rest of the bytes, handed on as a part
-pub rest-of : (bytes : List ℕ) (at : ℕ) → at ≤ length bytes → take (length bytes - at) (drop at bytes) ≡ drop at bytes
-rest-of bytes at h = take-all (length bytes - at) (drop at bytes) (rw length-drop (omega arith))
-
 -- a sheet more is looked at while the bytes go on, and none where they end
-sheet-by : (most : ℕ) (b : Book) (bytes : List ℕ) (at : ℕ) → 0 < most → at < length bytes
-    → periods most b bytes at ≡ afterSheet (answer b (Take (drop at bytes))) at (periods (most - 1) (wholePeriod b (drop at bytes)) bytes)
+pub sheet-by : (rules : Rules) (most : ℕ) (b : Book) (bytes : List ℕ) (at : ℕ) → 0 < most → at < length bytes
+    → periods rules most b bytes at
+    ≡ afterSheet (answerBy rules b (Take (drop at bytes))) at (periods rules (most - 1) (wholePeriod rules b (drop at bytes)) bytes)
 unfolding periods
-sheet-by zero b bytes at p h = absurd (omega arith)
-sheet-by (suc most) b bytes at p h =
+sheet-by rules zero b bytes at p h = absurd (omega arith)
+sheet-by rules (suc most) b bytes at p h =
     let less : most ≡ suc most - 1 = omega arith in
-    let next = wholePeriod b (drop at bytes) in
-    let looks : periods (suc most) b bytes at ≡ afterSheet (answer b (Take (drop at bytes))) at (periods most next bytes) = rw (lt-ltb at (length bytes) h) in
-    looks ∙ ap (λ (m : ℕ). afterSheet (answer b (Take (drop at bytes))) at (periods m next bytes)) less
+    let said = answerBy rules b (Take (drop at bytes)) in
+    let next = wholePeriod rules b (drop at bytes) in
+    let looks : periods rules (suc most) b bytes at ≡ afterSheet said at (periods rules most next bytes) = rw (lt-ltb at (length bytes) h) in
+    looks ∙ ap (λ (m : ℕ). afterSheet said at (periods rules m next bytes)) less
 
-end-by : (most : ℕ) (b : Book) (bytes : List ℕ) (at : ℕ) → length bytes ≤ at → periods most b bytes at ≡ listed b
+pub end-by : (rules : Rules) (most : ℕ) (b : Book) (bytes : List ℕ) (at : ℕ) → length bytes ≤ at → periods rules most b bytes at ≡ Ended b
 unfolding periods
-end-by zero b bytes at h = refl
-end-by (suc most) b bytes at h = rw (le-ltb at (length bytes) h)
+end-by rules zero b bytes at h = refl
+end-by rules (suc most) b bytes at h = rw (le-ltb at (length bytes) h)
 
 module _ (bytes : List ℕ) (f : Facility) (at : ℕ) (p : Turn bytes f at) where
   pub turn-sound : (sound f ≡ true) × (segments (f .road) ≤ 64)
@@ -159,7 +156,10 @@ module _ (bytes : List ℕ) (f : Facility) (at : ℕ) (p : Turn bytes f at) wher
 
   -- the end of the file
   pub ends : length bytes ≤ at → shown f ≡ forecastOf bytes
-  ends h = rw (p .view) (shows (p .book) (p .kept) ∙ sym (end-by (p .most) (p .book) bytes at h) ∙ sym (p .rest))
+  unfolding forecastBy
+  ends h =
+      let end = p .rest ∙ end-by present (p .most) (p .book) bytes at h in
+      rw (p .view) (shows (p .book) (p .kept) ∙ sym (ap (listing present) end))
 
   -- a sheet that the bytes from the place on give
   module _ (inside : at < length bytes) (r : Reply) (gave : r ≡ takeOf f (drop at bytes)) where
@@ -169,10 +169,10 @@ module _ (bytes : List ℕ) (f : Facility) (at : ℕ) (p : Turn bytes f at) wher
     said : takeSays r ≡ answer (p .book) (Take (drop at bytes))
     said = ap takeSays took ∙ takes (p .book) (drop at bytes) (p .kept) .0
 
-    told : forecastOf bytes ≡ afterSheet (takeSays r) at (periods (p .most - 1) (wholePeriod (p .book) (drop at bytes)) bytes)
+    told : outcomeBy present bytes ≡ afterSheet (takeSays r) at (periods present (p .most - 1) (wholePeriod present (p .book) (drop at bytes)) bytes)
     told =
-        p .rest ∙ sheet-by (p .most) (p .book) bytes at (omega (arith, p .count, p .kept .few)) inside
-        ∙ ap (λ (a : Answer). afterSheet a at (periods (p .most - 1) (wholePeriod (p .book) (drop at bytes)) bytes)) (sym said)
+        p .rest ∙ sheet-by present (p .most) (p .book) bytes at (omega (arith, p .count, p .kept .few)) inside
+        ∙ ap (λ (a : Answer). afterSheet a at (periods present (p .most - 1) (wholePeriod present (p .book) (drop at bytes)) bytes)) (sym said)
 
     said-within : AnswerWithin (length bytes - at) (takeSays r)
     said-within = rw (said, ← (length-drop at bytes)) (take-within (p .book) (drop at bytes))
@@ -183,7 +183,8 @@ module _ (bytes : List ℕ) (f : Facility) (at : ℕ) (p : Turn bytes f at) wher
       place-within = omega (arith, rw (ne-eqb (r .refusal) 0 n) at said-within)
 
       pub refuses : refusedListing (r .refusal) (at + r .offset) ≡ forecastOf bytes
-      refuses = sym (rw (ne-eqb (r .refusal) 0 n) at told)
+      unfolding forecastBy
+      refuses = sym (ap (listing present) (rw (ne-eqb (r .refusal) 0 n) at told))
 
     module _ (z : r .refusal ≡ 0) where
       taken : answer (p .book) (Take (drop at bytes)) ≡ Taken (r .used)
@@ -194,16 +195,17 @@ module _ (bytes : List ℕ) (f : Facility) (at : ℕ) (p : Turn bytes f at) wher
 
       -- the period run whole
       module _ (ran : Reply) (runs-it : ran ≡ runOf (r .facility) whole) where
-        view-next : ran .facility ≡ view (wholePeriod (p .book) (drop at bytes))
+        view-next : ran .facility ≡ view (wholePeriod present (p .book) (drop at bytes))
         view-next =
             let b = after (p .book) (Take (drop at bytes)) in
             let begins : r .facility ≡ view b = ap (λ (q : Reply). q .facility) took ∙ takes (p .book) (drop at bytes) (p .kept) .1 in
             ap (λ (q : Reply). q .facility) (runs-it ∙ ap (λ (g : Facility). runOf g whole) begins)
             ∙ runs b whole (kept-after (p .book) (Take (drop at bytes)) (p .kept)) .1
 
-        taken-next : wholePeriod (p .book) (drop at bytes) .taken ≡ p .book .taken + 1
+        taken-next : wholePeriod present (p .book) (drop at bytes) .taken ≡ p .book .taken + 1
         unfolding Begun
-        taken-next = run-keeps (λ b. b .taken) (after (p .book) (Take (drop at bytes))) whole refl ∙ begun (p .book) (drop at bytes) (r .used) taken .0
+        taken-next =
+            run-keeps present (λ b. b .taken) (after (p .book) (Take (drop at bytes))) whole refl ∙ begun present (p .book) (drop at bytes) (r .used) taken .0
 
         pub one-taken : ran .facility .taken ≡ f .taken + 1
         one-taken =
@@ -211,10 +213,10 @@ module _ (bytes : List ℕ) (f : Facility) (at : ℕ) (p : Turn bytes f at) wher
 
         pub goes-on : Turn bytes (ran .facility) (at + r .used)
         goes-on = record {
-          book = wholePeriod (p .book) (drop at bytes);
+          book = wholePeriod present (p .book) (drop at bytes);
           kept = kept-after (after (p .book) (Take (drop at bytes))) (Run whole) (kept-after (p .book) (Take (drop at bytes)) (p .kept));
           view = view-next;
-          idle = run-out (p .book) (drop at bytes) (r .used) taken;
+          idle = run-out present (p .book) (drop at bytes) (r .used) taken;
           most = p .most - 1;
           count = omega (arith, p .count, p .kept .few, taken-next);
           up-to = next-within;

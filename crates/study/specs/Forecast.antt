@@ -10,7 +10,7 @@ use Rattle.sheets.specs.Read.{readRoad, padded}
 use Rattle.conditions.specs.Conditions.{segments}
 use Rattle.steps.specs.Step.{replaced, storedOf}
 use Rattle.letters.specs.Level.{letterByte}
-use Rattle.facility.specs.Ledger.{Take, Run, Report, Answer, Refused, Taken, Ran, Reported, Summed, stateAfter, arrivedIn, leftIn, partstepsIn, Book, opened, answer, after}
+use Rattle.facility.specs.Ledger.{Take, Run, Report, Answer, Refused, Taken, Ran, Reported, Summed, stateAfter, arrivedIn, leftIn, partstepsIn, Book, opened, Rules, present, answerBy, afterBy}
 use Rattle.study.specs.declared.Line.{Line}
 use Rattle.study.specs.declared.Listing.{Listing}
 
@@ -31,8 +31,8 @@ unfoldable pub linesBy : (ℕ → Line) → ℕ → List Line
 linesBy line segments = replaced line segments (replicate 64 noLine)
 
 -- "arrived, left, stored, part-steps, origin (o), then segment, n, q, letter"
-unfoldable pub listed : Book → Listing
-listed b = record {
+unfoldable pub listed : Rules → Book → Listing
+listed rules b = record {
   refusal = 0;
   place = 0;
   segments = segments (b .road);
@@ -41,7 +41,7 @@ listed b = record {
   stored = storedOf (segments (b .road)) (stateAfter (b .trail));
   partsteps = partstepsIn (b .trail);
   origin = stateAfter (b .trail) .origin;
-  lines = linesBy (λ i. lineOf (answer b (Report (i + 1)))) (segments (b .road));
+  lines = linesBy (λ i. lineOf (answerBy rules b (Report (i + 1)))) (segments (b .road));
 }
 
 -- "a refused study prints only refused, the number and the place in the file"
@@ -58,10 +58,20 @@ refusedListing number place = record {
   lines = replicate 64 noLine;
 }
 
+-- what a study comes to: the book at its end, or a refusal's number and its place in the file
+pub data Outcome : Type 0 where
+  Ended : Book → Outcome
+  RefusedStudy : (number place : ℕ) → Outcome
+
+-- its listing
+abbrev pub listing : Rules → Outcome → Listing
+listing rules (Ended b) = listed rules b
+listing rules (RefusedStudy number place) = refusedListing number place
+
 -- a sheet that starts at a place of the file: taken, on from where it ended; refused, "the sheet's start plus the refusal's offset"
-abbrev pub afterSheet : Answer → ℕ → (ℕ → Listing) → Listing
+abbrev pub afterSheet : Answer → ℕ → (ℕ → Outcome) → Outcome
 afterSheet (Taken used) at on = on (at + used)
-afterSheet (Refused number offset) at on = refusedListing number (at + offset)
+afterSheet (Refused number offset) at on = RefusedStudy number (at + offset)
 afterSheet Ran at on = on at
 afterSheet (Reported figures level) at on = on at
 afterSheet (Summed arrived left stored partsteps) at on = on at
@@ -71,22 +81,30 @@ abbrev pub whole : ℕ
 whole = 60
 
 -- the book after a sheet is taken and its period run whole
-abbrev pub wholePeriod : Book → List ℕ → Book
-wholePeriod b sheet = after (after b (Take sheet)) (Run whole)
+abbrev pub wholePeriod : Rules → Book → List ℕ → Book
+wholePeriod rules b sheet = afterBy rules (afterBy rules b (Take sheet)) (Run whole)
 
 -- the period sheets from a place on, "to the end of the file". At most so many are looked at
-unfoldable pub periods : ℕ → Book → List ℕ → ℕ → Listing
-periods zero b bytes at = listed b
-periods (suc most) b bytes at =
+unfoldable pub periods : Rules → ℕ → Book → List ℕ → ℕ → Outcome
+periods rules zero b bytes at = Ended b
+periods rules (suc most) b bytes at =
     if ltb at (length bytes) then
-    afterSheet (answer b (Take (drop at bytes))) at (periods most (wholePeriod b (drop at bytes)) bytes)
-    else listed b
+    afterSheet (answerBy rules b (Take (drop at bytes))) at (periods rules most (wholePeriod rules b (drop at bytes)) bytes)
+    else Ended b
 
 -- "the period part starts wherever the road part ended". The 97th sheet is always refused, by 13, so that no more are looked at
-abbrev pub onRoad : List ℕ → Rows → Listing
-onRoad bytes (ReadRow row used) = periods 97 (opened (padded row)) bytes used
-onRoad bytes (RefusedAt number offset) = refusedListing number offset
+abbrev pub onRoad : Rules → List ℕ → Rows → Outcome
+onRoad rules bytes (ReadRow row used) = periods rules 97 (opened (padded row)) bytes used
+onRoad rules bytes (RefusedAt number offset) = RefusedStudy number offset
 
--- the forecast of a study
-unfoldable pub forecastOf : List ℕ → Listing
-forecastOf bytes = onRoad bytes (readRoad bytes)
+-- a study by the rules, from the bytes of its file
+unfoldable pub outcomeBy : Rules → List ℕ → Outcome
+outcomeBy rules bytes = onRoad rules bytes (readRoad bytes)
+
+-- its forecast
+unfoldable pub forecastBy : Rules → List ℕ → Listing
+forecastBy rules bytes = listing rules (outcomeBy rules bytes)
+
+-- the forecast of a study by the present rules
+abbrev pub forecastOf : List ℕ → Listing
+forecastOf = forecastBy present

@@ -5,7 +5,8 @@ use native.Mathlib.Omega.{arith}
 use lib.ListN.{length, drop}
 use denote.Ref.{now}
 use Rattle.facility.specs.Calls.{takeOf}
-use Rattle.study.proofs.Periods.{rest-of, Turn, begins, not-begun, turn-sound, ends, place-within, refuses, next-within, one-taken, goes-on, few-taken}
+use Rattle.sheets.proofs.Within.{rest-of}
+use Rattle.study.proofs.Periods.{Turn, begins, not-begun, turn-sound, ends, place-within, refuses, next-within, one-taken, goes-on, few-taken}
 use Rattle.study.proofs.forecast.Statement.{statement}
 use Rattle.study.proofs.forecast.Tie as tie
 

@@ -1,19 +1,21 @@
 -- A reading stays within its bytes: what it used, and the offset of a refusal, are at most their length.
 use Prim.Native.Nat.{ℕ, zero, suc, _+_, _-_, _≤_}
 use mathlib.Core.Bool.{Bool, true, false}
+use mathlib.Core.Path.{_≡_}
 use mathlib.Core.List.{List, [], _∷_}
 use native.Mathlib.Omega.{arith}
-use lib.ListN.{length, drop, getD, length-drop}
+use lib.ListN.{length, take, drop, getD, length-drop}
+use lib.Seq.{take-all}
 use lib.Dec.{ltb}
 use Rattle.numbers.specs.Choice.{if_then_else_}
 use Rattle.numbers.specs.declared.Range.{Range}
 use Rattle.numbers.specs.Number.{Reading, Read, Refused, last, more, groups, placed, readNumber}
 use Rattle.numbers.specs.Field.{inRange, readField}
 use Rattle.sheets.specs.declared.Layout.{Layout}
 use Rattle.sheets.specs.declared.Layout.the-variants.{Road, Period}
 use Rattle.sheets.specs.Layout.{roadRange, rangeOf, countOf}
 use Rattle.numbers.specs.Row.{Rows, ReadRow, RefusedAt, onto, andThen, fields}
 use Rattle.sheets.specs.Read.{fieldOf, readRow, roadFrom, readRoad, readPeriod}
 
 -- the place after a number that was read is at most m
 abbrev Within : ℕ → Reading → Type 0
@@ -82,7 +84,7 @@ fields-within l road s (suc left) k at h =
     then-within (length s) at (fieldOf l road s k at) (fields (fieldOf l road s) left (k + 1)) h (field-within (rangeOf l road k) s at h)
     (λ n. fields-within l road s left (k + 1) n)
 
-row-within : (l : Layout) (road s : List ℕ) → RowWithin (length s) (readRow l road s)
+pub row-within : (l : Layout) (road s : List ℕ) → RowWithin (length s) (readRow l road s)
 unfolding readRow
 row-within l road s = fields-within l road s (countOf l) 0 0 (omega arith)
 
@@ -98,3 +100,7 @@ road-within s = from-within s (readField (roadRange 0) s 0)
 pub period-within : (road s : List ℕ) → RowWithin (length s) (readPeriod road s)
 unfolding readPeriod
 period-within road s = row-within (Period (getD road 0 0)) road s
+
+-- the bytes from a place on, handed on as a part
+pub rest-of : (bytes : List ℕ) (at : ℕ) → at ≤ length bytes → take (length bytes - at) (drop at bytes) ≡ drop at bytes
+rest-of bytes at h = take-all (length bytes - at) (drop at bytes) (rw length-drop (omega arith))

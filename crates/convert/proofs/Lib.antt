@@ -1,0 +1,10 @@
+pub mod Rows
+pub mod Closed
+pub mod Read
+pub mod Sheets
+pub mod Loops
+pub mod Walking
+pub mod Replies
+pub mod Faithful
+pub mod Refusals
+pub mod Examples

@@ -1,0 +1,4 @@
+pub mod Sheet
+pub mod Convert
+pub mod Statement
+pub mod Walked

@@ -1,0 +1,4 @@
+pub mod Outcomes
+pub mod Same
+pub mod Forecasts
+pub mod Examples
