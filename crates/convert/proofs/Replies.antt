@@ -10,9 +10,9 @@ use lib.Dec.{leb, ltb}
 use lib.Seq.{take-at}
 use borrow.Author.Tests.{leb-true, leb-false}
 use mathlib.Core.Logic.{_⊎_, inl, inr}
-use Rattle.numbers.specs.Choice.{if_then_else_}
 use Rattle.numbers.specs.Row.{Rows, ReadRow, RefusedAt}
 use Rattle.numbers.specs.Writing.{writeAnswer, writeInto}
+use Rattle.numbers.proofs.Choices.{choose}
 use Rattle.numbers.proofs.Rows.{NamedRow}
 use Rattle.numbers.proofs.Writings.{written, no-room}
 use Rattle.sheets.specs.declared.SheetReading.{SheetReading}
@@ -71,16 +71,12 @@ unfolding andSheets
 numbered-and at (ReadRow row used) rest n h = numbered-onto row (rest (at + used)) (h (at + used))
 numbered-and at (RefusedAt number offset) rest n h = n
 
-either : (t : Bool) (s : Sheets) → NumberedSheets s → NumberedSheets (if t then s else AllSheets [])
-either true s h = h
-either false s h = tt
-
 numbered-sheets : (sheet : List ℕ → Rows) → ((s : List ℕ) → NamedRow (sheet s)) → (left : ℕ) (bytes : List ℕ) (at : ℕ) → NumberedSheets (sheetsFrom sheet left bytes at)
 unfolding sheetsFrom
-numbered-sheets sheet named zero bytes at = either (ltb at (length bytes)) (RefusedSheet 13 at) (omega arith)
+numbered-sheets sheet named zero bytes at = choose NumberedSheets (ltb at (length bytes)) (RefusedSheet 13 at) (AllSheets []) (λ t. omega arith) (λ t. tt)
 numbered-sheets sheet named (suc left) bytes at =
-    either (ltb at (length bytes)) (andSheets at (sheet (drop at bytes)) (sheetsFrom sheet left bytes))
-    (numbered-and at (sheet (drop at bytes)) (sheetsFrom sheet left bytes) (named (drop at bytes)) (λ n. numbered-sheets sheet named left bytes n))
+    choose NumberedSheets (ltb at (length bytes)) (andSheets at (sheet (drop at bytes)) (sheetsFrom sheet left bytes)) (AllSheets [])
+    (λ t. numbered-and at (sheet (drop at bytes)) (sheetsFrom sheet left bytes) (named (drop at bytes)) (λ n. numbered-sheets sheet named left bytes n)) (λ t. tt)
 
 numbered-behind : (part : List ℕ) (s : Sheets) → NumberedSheets s → Numbered (behind part s)
 unfolding behind

@@ -1,6 +1,5 @@
 -- A walk over a study: what stands in `out` so far, and the sheets that are left.
 use Prim.Native.Nat.{ℕ, suc, _+_, _-_, _*_, _≤_, _<_}
-use mathlib.Core.Bool.{Bool, true, false}
 use mathlib.Core.Path.{_≡_, refl, sym, ap, _∙_}
 use mathlib.Core.List.{List, _++_, append-assoc, append-nil}
 use native.Mathlib.Nat.{zero-add}
@@ -8,10 +7,10 @@ use native.Mathlib.Omega.{arith}
 use lib.ListN.{length, take, drop, getD, length-append, length-drop, length-take}
 use lib.Seq.{take-at, length-take-le, drop-append-seam, drop-append-add, drop-drop}
 use lib.Dec.{ltb}
-use Rattle.numbers.specs.Choice.{if_then_else_}
 use Rattle.numbers.specs.Row.{Rows, ReadRow, RefusedAt}
 use Rattle.numbers.specs.Writing.{writeInto}
 use Rattle.numbers.proofs.Writings.{written}
+use Rattle.numbers.proofs.Choices.{choose}
 use Rattle.numbers.proofs.Rows.{NamedRow}
 use Rattle.sheets.specs.declared.SheetReading.{SheetReading}
 use Rattle.sheets.specs.Layout.{countOf}
@@ -42,16 +41,12 @@ place-most : (row : List ℕ) (i : ℕ) → length row ≤ 452 → openLanesPlac
 unfolding openLanesPlace
 place-most row i h = omega (arith, length-part row (3 + 3 * i + 2), row-most row)
 
-closed-near : (m : ℕ) (t : Bool) (row : List ℕ) (used place : ℕ) → used ≤ m → place ≤ 2260 → Near m (if t then RefusedAt 16 place else ReadRow row used)
-closed-near m true row used place u p = (omega arith, omega arith)
-closed-near m false row used place u p = u
-
 converted-near : (way : Way) (road row : List ℕ) (used m : ℕ) → used ≤ m → length row ≤ 452 → Near m (convertedFrom way road row used)
 unfolding convertedFrom
 converted-near ToSecond road row used m u h = u
 converted-near ToFirst road row used m u h =
-    closed-near m (ltb (firstClosed road row (getD road 0 0) 0) (getD road 0 0)) (convertedRow ToFirst road row) used
-    (openLanesPlace row (firstClosed road row (getD road 0 0) 0)) u (place-most row (firstClosed road row (getD road 0 0) 0) h)
+    let closed = firstClosed road row (getD road 0 0) 0 in
+    choose (Near m) (ltb closed (getD road 0 0)) (RefusedAt 16 _) (ReadRow (convertedRow ToFirst road row) used) (λ t. (omega arith, omega (arith, place-most row closed h))) (λ t. u)
 
 by-near : (way : Way) (road : List ℕ) (m : ℕ) (r : Rows) → NamedRow r → RowWithin m r → ((row : List ℕ) (used : ℕ) → r ≡ ReadRow row used → length row ≤ 452)
     → Near m (convertedBy way road r)
