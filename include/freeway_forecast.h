@@ -36,7 +36,8 @@ enum {
 /*
  * Reads a study (a road sheet, then period sheets to the end), runs every period whole, and fills the first 200 numbers
  * of `out`; those not named above are 0. After a refusal all but the first two are 0. Numbers past the 200th keep
- * their contents. A period sheet has three numbers for each segment: ramp demand, meter rate, open lanes.
+ * their contents. A period sheet has three numbers for each segment: ramp demand, meter rate, open lanes. What an
+ * off-ramp's share has beside its whole parts is carried from step to step, over periods too.
  *
  * Gives the refusal's number, 0 for none. Where `out_len` is below 200 it gives 7 and leaves `out` as it was.
  *

@@ -20,6 +20,7 @@ struct Tally {
     closed_lane: u64,
     above_jam: u64,
     no_capacity: u64,
+    remainder: u64,
     letters: BTreeMap<u8, u64>,
 }
 
@@ -39,6 +40,7 @@ impl Tally {
         self.closed_lane += u64::from(facility.has_closed_lane());
         self.above_jam += u64::from(facility.has_segment_above_jam());
         self.no_capacity += u64::from(facility.has_segment_without_capacity());
+        self.remainder += u64::from(facility.remainders().iter().any(|&remainder| remainder > 0));
         for report in reports() {
             *self.letters.entry(report.letter).or_default() += 1;
         }
@@ -49,6 +51,7 @@ impl Tally {
         println!("  of which {} end with a mainline queue, {} with a ramp queue", self.mainline_queue, self.ramp_queue);
         println!("  {} with a closed lane, {} with a segment above its jam", self.closed_lane, self.above_jam);
         println!("  {} with a segment whose open lanes have no capacity", self.no_capacity);
+        println!("  {} with a remainder", self.remainder);
         let letters = self.letters.iter().map(|(&letter, count)| format!("{} {count}", char::from(letter)));
         println!("  segments by letter: {}", letters.collect::<Vec<_>>().join(", "));
         print_refused(&self.refused);
@@ -107,6 +110,11 @@ fn each(
 /// Holds the engine, the idiomatic and the tuned version against what is expected of a study.
 pub fn same(study: &[u8], expected: &Outcome) -> Result<(), String> {
     engine_gives(study, expected)?;
+    timed_versions_give(study, expected)
+}
+
+/// Holds the idiomatic and the tuned version against it.
+fn timed_versions_give(study: &[u8], expected: &Outcome) -> Result<(), String> {
     for (name, other) in [("idiomatic", idiomatic::forecast(study)), ("tuned", tuned::forecast(study))] {
         if other != *expected {
             let (other, ours) = (other.listing(), expected.listing());
@@ -127,4 +135,15 @@ fn engine_gives(study: &[u8], expected: &Outcome) -> Result<(), String> {
 
 fn hex(bytes: &[u8]) -> String {
     bytes.iter().map(|byte| format!("{byte:02X}")).collect::<Vec<_>>().join(" ")
+}
+
+#[cfg(test)]
+mod tests {
+    use super::*;
+
+    #[test]
+    fn the_timed_versions_agree_with_the_model() {
+        let layout = |_| Layout::OFTEN_CLOSED;
+        assert!(each(1, 5_000, layout, |_, study| timed_versions_give(study, &model::forecast(study))));
+    }
 }

@@ -1,7 +1,8 @@
 //! Checks against files: studies with their listings, traces of steps, lists of calls with their answers, and conversions.
 //!
 //! NAME.study and NAME.listing are a study's bytes and what `forecast` prints. NAME.trace has steps of that study: a line `period`
-//! with a sheet's numbers, then the state and flows after each of the first steps under it; the next sheet goes on from there.
+//! with a sheet's numbers, then the state, the flows and the remainders after each of the first steps under it; the next sheet goes
+//! on from there.
 //! A .txt file is a list of calls on one road, a line each, `call arguments -> answer`; or of conversions, `to-second STUDY room
 //! BYTES -> ok CONVERTED` or `-> refused NUMBER PLACE`, and `to-first` as well.
 //!
@@ -143,9 +144,9 @@ fn stepped<E: Layout>(facility: &Facility<E>) -> String {
     let Totals { arrived, left, part_steps, .. } = facility.totals();
     let origin = facility.origin();
     let mut text = format!("step origin {origin} arrived {arrived} left {left} partsteps {part_steps}\n");
-    for i in 1..=facility.segments() {
+    for (i, remainder) in (1..).zip(facility.remainders()) {
         let report = facility.report(i).expect("the segment is there");
-        let _ = writeln!(text, "  {i} {}", reported(&report));
+        let _ = writeln!(text, "  {i} {} remainder {remainder}", reported(&report));
     }
     text
 }

@@ -41,6 +41,7 @@ struct Cell {
     ramp: u64,
     off: u64,
     out: u64,
+    remainder: u64,
 }
 
 #[derive(Clone, Copy)]
@@ -62,8 +63,9 @@ struct Facility {
 }
 
 impl Segment {
-    fn off(&self, leaving: u64) -> u64 {
-        leaving * self.share / 1000
+    /// What the off-ramp is due, in thousandths of a part.
+    fn due(&self, leaving: u64, remainder: u64) -> u64 {
+        leaving * self.share + remainder
     }
 
     fn wish_to_leave(&self, n: u64) -> u64 {
@@ -74,18 +76,18 @@ impl Segment {
         Segment { lanes: open, capacity: self.capacity * open / self.lanes, ..*self }
     }
 
-    fn could_leave(&self, n: u64) -> u64 {
-        let wish = self.wish_to_leave(n);
+    fn could_leave(&self, cell: &Cell) -> u64 {
+        let wish = self.wish_to_leave(cell.n);
         match self.share {
             0 => wish,
-            share => wish.min(((self.off_capacity + 1) * 1000 - 1) / share),
+            share => wish.min(((self.off_capacity + 1) * 1000 - 1 - cell.remainder) / share),
         }
     }
 
-    fn leaving(&self, most: u64, let_in: u64) -> u64 {
+    fn leaving(&self, most: u64, let_in: u64, remainder: u64) -> u64 {
         match self.share {
             1000 => most,
-            share => most.min(1000 * let_in / (1000 - share)),
+            share => most.min((1000 * let_in + remainder) / (1000 - share)),
         }
     }
 }
@@ -134,25 +136,26 @@ impl Facility {
         let mut left = 0;
         for i in 0..segments.len() {
             let (segment, cell) = (&segments[i], cells[i]);
-            let most = segment.could_leave(cell.n);
-            let wish = most - segment.off(most);
+            let most = segment.could_leave(&cell);
+            let wish = most - segment.due(most, cell.remainder) / 1000;
             let ahead = match segments.get(i + 1) {
                 Some(next) => {
                     road.inflow(next, &period.entries[i + 1], &cells[i + 1], wish, cell.n > road.at_capacity(segment))
                 }
                 None => Inflow { main: wish.min(period.exit_capacity), ramp: 0 },
             };
-            let out = segment.leaving(most, ahead.main);
-            let off = segment.off(out);
+            let out = segment.leaving(most, ahead.main, cell.remainder);
+            let due = segment.due(out, cell.remainder);
             cells[i] = Cell {
                 n: cell.n + inflow.main + inflow.ramp - out,
                 q: cell.q + period.entries[i].ramp_demand - inflow.ramp,
                 main: inflow.main,
                 ramp: inflow.ramp,
-                off,
+                off: due / 1000,
                 out,
+                remainder: due % 1000,
             };
-            left += off;
+            left += due / 1000;
             inflow = ahead;
         }
         self.exit = inflow.main;

@@ -1,5 +1,5 @@
-//! A model of documents 01 and 02 (Q-1, closed lanes; Q-2, conversion), written from the documents alone and for reading, not for
-//! speed.
+//! A model of documents 01 and 02 (Q-1, closed lanes; Q-2, conversion; Q-3, the split's remainder), written from the documents
+//! alone and for reading, not for speed.
 
 pub mod convert;
 pub mod facility;
@@ -75,5 +75,23 @@ mod tests {
         let totals = facility.totals();
         assert_eq!((facility.report(1).unwrap().n, facility.origin()), (4_092, 1_816));
         assert_eq!((totals.left, totals.part_steps), (8_492, 15_908));
+    }
+
+    /// One part leaves a step, but for the first, and 333 of 1,000 take the off-ramp.
+    #[test]
+    fn a_remainder_lives_over_a_periods_end() {
+        let road = sheets::written(&[1, 190, 45, 7, 300, 1, 60, 2_000, 0, 333, 10]);
+        let period = sheets::written(&[1, 1, 20_000, 0, 0, 1]);
+        let (mut facility, _) = Facility::<Entry>::lay(&road).unwrap();
+        facility.take(&period).unwrap();
+        facility.run(60).unwrap();
+        // 59 * 333 is 19,647
+        assert_eq!((facility.totals().left, facility.remainders()), (59, &[647][..]));
+        facility.take(&period).unwrap();
+        for off in [0, 1] {
+            facility.run(1).unwrap();
+            assert_eq!(facility.report(1).unwrap().off, off);
+        }
+        assert_eq!(Facility::<Entry>::lay(&road).unwrap().0.remainders(), [0]);
     }
 }

@@ -67,6 +67,8 @@ enum Style {
     Usual,
     /// Small capacities and demands, where every rounding shows.
     Small,
+    /// A usual road in light traffic, its off-ramps with odd shares and mostly narrow, where the splits' remainders show.
+    Light,
     /// Anything in range.
     Uniform,
     /// The ends of each range and the steps between one, two and three bytes.
@@ -77,8 +79,24 @@ enum Style {
     Mixed,
 }
 
-const STYLES: [Style; 8] =
-    [Style::Usual, Style::Usual, Style::Small, Style::Small, Style::Uniform, Style::Edges, Style::Full, Style::Mixed];
+const STYLES: [Style; 10] = [
+    Style::Usual,
+    Style::Usual,
+    Style::Small,
+    Style::Small,
+    Style::Light,
+    Style::Light,
+    Style::Uniform,
+    Style::Edges,
+    Style::Full,
+    Style::Mixed,
+];
+
+/// Shares whose remainders add up slowly, exactly, past a whole part at nearly every step, or never.
+const ODD_SHARES: [u64; 14] = [1, 1, 2, 7, 143, 250, 333, 333, 501, 667, 999, 999, 1_000, 1_000];
+
+/// Capacities of off-ramps that are shut, narrow or wide.
+const OFF_CAPACITIES: [u64; 10] = [0, 0, 1, 1, 2, 3, 5, 12, 1_000, 10_000];
 
 /// A field's value with the range that its sheet allows.
 struct Field {
@@ -107,6 +125,9 @@ impl Fields {
         let value = match style {
             Style::Usual => self.random.within(usual.0, usual.1),
             Style::Small => self.random.within(small.0, small.1),
+            // the road is the first sheet
+            Style::Light if self.sheets.len() == 1 => self.random.within(usual.0, usual.1),
+            Style::Light => self.random.within(small.0, small.1),
             Style::Uniform => self.random.within(low, high),
             Style::Full => self.random.pick(&[low, high - 1, high, high, high]),
             _ => self.random.pick(&[low, low, low + 1, 127, 128, 16_383, 16_384, high - 1, high, high]),
@@ -142,6 +163,18 @@ impl Fields {
             self.add((15, 85), (50, 75), (15, 85));
             self.add((1, 20_000), (1_700 * lanes, 2_300 * lanes), (1, 60));
             self.add_or_zero(40, (0, 10_000), (600, 2_000), (0, 40));
+            self.off_ramp();
+        }
+    }
+
+    /// Adds a segment's off-ramp, its share and its capacity: often odd ones in light traffic, now and then elsewhere.
+    fn off_ramp(&mut self) {
+        let percent = if self.style == Style::Light { 60 } else { 10 };
+        if self.random.chance(percent) {
+            let (share, capacity) = (self.random.pick(&ODD_SHARES), self.random.pick(&OFF_CAPACITIES));
+            self.fixed(share, 0, 1_000);
+            self.fixed(capacity, 0, 10_000);
+        } else {
             self.add_or_zero(40, (0, 1_000), (20, 300), (0, 1_000));
             self.add((0, 10_000), (100, 2_000), (0, 12));
         }

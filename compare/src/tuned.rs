@@ -2,7 +2,8 @@
 //!
 //! Whatever a step needs that does not change from step to step is worked out once: by the road, by the period, and what
 //! depends on the open lanes when their number changes. A step is one pass over the segments, the two "largest y" are
-//! closed forms, and no division is made whose result is known beforehand.
+//! closed forms, and no division but by constants is made whose result is known beforehand, nor one for the remainder after the
+//! step. Off(y) is always formed, by a product and a constant division, also where there is no share.
 
 use crate::outcome::{Forecast, Outcome, Standing};
 use std::hint::black_box;
@@ -111,8 +112,9 @@ struct Segment {
     full_capacity: u64,
     ramp_capacity: u64,
     share: u64,
-    /// The most that can leave before the off-ramp is full.
-    off_limit: u64,
+    off_capacity: u64,
+    /// The most that the off-ramp may be due, in thousandths of a part.
+    most_due: u64,
     // from the open lanes
     open: u64,
     capacity: u64,
@@ -125,6 +127,7 @@ struct Segment {
     // the state
     n: u64,
     q: u64,
+    remainder: u64,
 }
 
 /// A segment whose outflow waits for the next node's.
@@ -187,11 +190,11 @@ impl Facility {
                 Some(leaving) => left += leaving.let_out(mainline),
             }
             queue_before = segment.n > segment.at_capacity;
-            let most = segment.could_leave();
-            wish = most - segment.off(most);
+            let (most, through) = segment.could_leave();
             segment.n += mainline + ramp;
             segment.q = segment.q + segment.ramp_demand - ramp;
-            before = Some(Leaving { segment, most, through: wish });
+            before = Some(Leaving { segment, most, through });
+            wish = through;
         }
         if let Some(leaving) = before {
             let exit = wish.min(self.exit_capacity);
@@ -230,7 +233,8 @@ impl Segment {
             full_capacity,
             ramp_capacity,
             share,
-            off_limit: (1000 * off_capacity + 999).checked_div(share).unwrap_or(u64::MAX),
+            off_capacity,
+            most_due: 1000 * off_capacity + 999,
             open: 0,
             capacity: 0,
             dropped_capacity: 0,
@@ -240,6 +244,7 @@ impl Segment {
             ramp_limit: 0,
             n: 0,
             q: 0,
+            remainder: 0,
         };
         segment.open_lanes(lanes, common);
         Ok(segment)
@@ -255,12 +260,35 @@ impl Segment {
         self.at_capacity = common.capacity_density * area / 22;
     }
 
-    fn off(&self, leaving: u64) -> u64 {
-        leaving * self.share / 1000
+    /// The most that can leave, and how much of it goes through. The remainder is from then on that of all of it leaving.
+    fn could_leave(&mut self) -> (u64, u64) {
+        let wish = self.wish_to_leave();
+        let due = wish * self.share + self.remainder;
+        if due <= self.most_due {
+            let off = due / 1000;
+            self.remainder = due - 1000 * off;
+            (wish, wish - off)
+        } else {
+            // the off-ramp is full
+            let most = (self.most_due - self.remainder) / self.share;
+            self.remainder = self.remainder + most * self.share - 1000 * self.off_capacity;
+            (most, most - self.off_capacity)
+        }
     }
 
-    fn could_leave(&self) -> u64 {
-        let most = self.n.min(self.capacity).min(self.off_limit);
+    /// What leaves where less is let in than wished, so that some share goes through. The remainder is first set back.
+    fn held_back(&mut self, most: u64, through: u64, let_in: u64) -> u64 {
+        if self.share == 0 {
+            return let_in;
+        }
+        let remainder = self.remainder + 1000 * (most - through) - most * self.share;
+        let leaving = (1000 * let_in + remainder) / (1000 - self.share);
+        self.remainder = remainder + leaving * self.share - 1000 * (leaving - let_in);
+        leaving
+    }
+
+    fn wish_to_leave(&self) -> u64 {
+        let most = self.n.min(self.capacity);
         let moved = self.n * self.reach;
         if moved >= most * self.length {
             most
@@ -310,13 +338,9 @@ impl Segment {
 impl Leaving<'_> {
     /// Takes what leaves out of the segment, now that the next node's flow is known; gives what took the off-ramp.
     fn let_out(self, let_in: u64) -> u64 {
-        let leaving = if let_in == self.through {
-            self.most
-        } else {
-            // less was let in than wished, so some share goes through
-            self.most.min(1000 * let_in / (1000 - self.segment.share))
-        };
-        self.segment.n -= leaving;
+        let Leaving { segment, most, through } = self;
+        let leaving = if let_in == through { most } else { segment.held_back(most, through, let_in) };
+        segment.n -= leaving;
         leaving - let_in
     }
 }

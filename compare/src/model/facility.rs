@@ -90,10 +90,7 @@ impl<E: Layout> Facility<E> {
         for _ in 0..k {
             self.last = step::step(&self.road_in_force, period, &mut self.state);
             self.arrived += period.demand + period.entries.iter().map(E::ramp_demand).sum::<u64>();
-            self.left += self.last.f[self.road.segments.len()];
-            for (segment, &y) in self.road.segments.iter().zip(&self.last.y) {
-                self.left += step::off(segment, y);
-            }
+            self.left += self.last.f[self.road.segments.len()] + self.last.off.iter().sum::<u64>();
             self.part_steps += self.arrived - self.left;
             *made += 1;
         }
@@ -112,10 +109,15 @@ impl<E: Layout> Facility<E> {
             q: self.state.q[i],
             f: self.last.f[i],
             r: self.last.r[i],
-            off: step::off(segment, self.last.y[i]),
+            off: self.last.off[i],
             y: self.last.y[i],
             letter: step::letter(segment, self.state.n[i]),
         })
+    }
+
+    /// The remainders of all segments, which are in no answer.
+    pub fn remainders(&self) -> &[u64] {
+        &self.state.remainder
     }
 
     pub fn totals(&self) -> Totals {

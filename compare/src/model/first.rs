@@ -1,5 +1,5 @@
-//! The first layout and the first rules: document 01 without closed lanes. A period sheet has two numbers a segment, and under
-//! every sheet lanes and capacity are the road's own.
+//! The first layout and the first rules: document 01 without closed lanes, its split with the remainder like all others. A
+//! period sheet has two numbers a segment, and under every sheet lanes and capacity are the road's own.
 
 use super::sheets::{Fields, Layout, Refusal, Segment};
 

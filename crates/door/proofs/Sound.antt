@@ -10,6 +10,8 @@ use Rattle.parts.specs.Allowed.{all-below, roadAllowed, periodAllowed}
 use Rattle.parts.proofs.Allowed.{all-at, all-by, both}
 use Rattle.parts.specs.Good.{GoodRoad, GoodPeriod}
 use Rattle.parts.proofs.Good.{good-period}
+use Rattle.segment.specs.declared.Cell.{Cell}
+use Rattle.segment.specs.Bounded.{BoundedCell}
 use Rattle.steps.specs.declared.State.{State}
 use Rattle.steps.specs.Step.{cellIn}
 use Rattle.steps.specs.Bounded.{Bounded}
@@ -33,18 +35,27 @@ pub record Sound (f : Facility) : Type 0 where
   pub sums : BoundedSums (stepsBy (f .taken) (f .made)) (f .arrived) (f .left) (f .partsteps)
 
 -- ---- the parts of the test
+cell-bounded : (t : ℕ) (c : Cell) → cellBounded t c ≡ true → BoundedCell t c
+unfolding cellBounded
+cell-bounded t c e =
+    let x = both (leb (c .n) 2880000) _ e in
+    let y = both (leb (c .q) (10000 * t)) _ (x .1) in
+    record { parts = leb-true _ _ (x .0); queue = leb-true _ _ (y .0); remainder = omega (arith, leb-true (c .remainder) _ (y .1)) }
+
+bounded-cell : (t : ℕ) (c : Cell) → BoundedCell t c → cellBounded t c ≡ true
+unfolding cellBounded
+bounded-cell t c b = rw (le-leb _ _ (b .parts), le-leb _ _ (b .queue), le-leb (c .remainder) 999 (omega (arith, b .remainder)))
+
 pub state-bounded : (ns t : ℕ) (state : State) → stateBounded ns t state ≡ true → Bounded ns t state
-unfolding stateBounded cellBounded
+unfolding stateBounded
 state-bounded ns t state e =
     let b = both (all-below (λ i. cellBounded t (cellIn state i)) ns) (leb (state .origin) (20000 * t)) e in
-    let at : (i : ℕ) → i < ns → (leb (cellIn state i .n) 2880000 ≡ true) × (leb (cellIn state i .q) (10000 * t) ≡ true) =
-    λ i h. both _ _ (all-at (λ i. cellBounded t (cellIn state i)) ns i (b .0) h) in
-    record { cells = λ i h. record { parts = leb-true _ _ (at i h .0); queue = leb-true _ _ (at i h .1) }; origin = leb-true _ _ (b .1) }
+    record { cells = λ i h. cell-bounded t (cellIn state i) (all-at (λ i. cellBounded t (cellIn state i)) ns i (b .0) h); origin = leb-true _ _ (b .1) }
 
 pub bounded-state : (ns t : ℕ) (state : State) → Bounded ns t state → stateBounded ns t state ≡ true
-unfolding stateBounded cellBounded
+unfolding stateBounded
 bounded-state ns t state b =
-    let each : (i : ℕ) → i < ns → cellBounded t (cellIn state i) ≡ true = λ i h. rw (le-leb _ _ (b .cells i h .parts), le-leb _ _ (b .cells i h .queue)) in
+    let each : (i : ℕ) → i < ns → cellBounded t (cellIn state i) ≡ true = λ i h. bounded-cell t (cellIn state i) (b .cells i h) in
     rw (all-by (λ i. cellBounded t (cellIn state i)) ns each, le-leb _ _ (b .origin))
 
 pub sums-bounded : (t a l p : ℕ) → sumsBounded t a l p ≡ true → BoundedSums t a l p

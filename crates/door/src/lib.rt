@@ -47,7 +47,7 @@ fn is_cell_bounded(t: u32, cell: Cell) -> bool
     requires { ⌜ t ≤ 5760 ⌝ }
     ensures { λ r. ⌜ r ≡ cellBounded t cell ⌝ }
 {
-    (cell.n <= 2880000) & (cell.q <= 10000 * t)
+    (cell.n <= 2880000) & ((cell.q <= 10000 * t) & (cell.remainder <= 999))
 }
 
 fn is_state_bounded(ns: usize, t: u32, state: State) -> bool

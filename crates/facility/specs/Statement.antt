@@ -43,7 +43,7 @@ pub record ListStatement (road : List ℕ) (cs : List Call) (xs : List Answer) (
   pub balanced : Balanced (trail road cs)
   -- in every step, by the conditions in force in it: at most capacity in and out; a segment above its jam takes nothing in and never gains,
   -- one at or below never passes it; inflow exactly the smaller of wish and supply, what leaves one segment by the mainline enters the next,
-  -- nothing is lost; and each step starts where the one before ended
+  -- the off-ramp gets its share to the part, nothing is lost; and each step starts where the one before ended
   pub every-step : Every Right (trail road cs)
   pub chained : Chained (trail road cs)
   -- the road stays as it was laid, and the facility is never the empty one

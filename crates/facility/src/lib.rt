@@ -110,13 +110,13 @@ fn with_sheet(f: Facility, period: [u32; 452]) -> Facility
     ensures { λ r. ⌜ r ≡ withSheet f period ⌝ }
 {
     let road = f.road;
-    let state = f.state;
+    let kept = f.state;
     Facility {
         road,
         period,
         taken: f.taken + 1,
         made: 0,
-        state,
+        state: kept,
         arrived: f.arrived,
         left: f.left,
         partsteps: f.partsteps,

@@ -1,5 +1,5 @@
 -- The first rules compute: what is in force under a sheet of the first layout, and steps of studies whose states were worked out apart from these
--- definitions, by document 01 alone.
+-- definitions, by document 01 and the remainder of document 02, Q-3.
 use mathlib.Core.Path.{_≡_, refl}
 use Prim.Native.Nat.{ℕ, zero, suc}
 use mathlib.Core.List.{List, [], _∷_}
@@ -7,7 +7,7 @@ use lib.ListN.{replicate}
 use Rattle.parts.specs.Parts.{roadGlobals, segmentOf, periodGlobals}
 use Rattle.segment.specs.declared.Cell.{Cell}
 use Rattle.steps.specs.declared.State.{State}
-use Rattle.rules.specs.Rules.{largest, roundedUp, wishToLeave, off, through, mostLeaving, rampWish, entrance, supply, rampFlow, mainFlow, leaving}
+use Rattle.rules.specs.Rules.{largest, roundedUp, wishToLeave, off, remainderAfter, through, mostLeaving, rampWish, entrance, supply, rampFlow, mainFlow, leaving}
 use Rattle.steps.specs.Step.{noCell, mainWishAt, queuedAt, mainFlowAt, replaced, stepped}
 use Rattle.segment.specs.Place.{splitOf, wishOf, mostOf, onwardOf, queuedOf, rampWishOf, entranceOf, supplyOf, inflowOf, leavingOf, movedOf}
 use Rattle.conditions.specs.Values.{valuesTo}
@@ -41,8 +41,8 @@ in-force : firstConditions worked (Under (1 ∷ 4800 ∷ 10000 ∷ 30 ∷ 20 ∷
 unfolding worked firstConditions firstDemand firstMeter partsAt loweredBy demandUnder outletUnder roadGlobals segmentOf periodGlobals valuesTo
 in-force = refl
 
-cell : (n q f r off y : ℕ) → Cell
-cell n q f r o y = record { n = n; q = q; main = f; ramp = r; off = o; out = y }
+cell : (n q f r off y remainder : ℕ) → Cell
+cell n q f r o y m = record { n = n; q = q; main = f; ramp = r; off = o; out = y; remainder = m }
 
 -- so many steps from the road just laid on
 after : ℕ → (road first : List ℕ) → State
@@ -63,13 +63,13 @@ AllAgree (x ∷ xs) = Agrees x × AllAgree xs
 traces : List Trace
 traces =
     -- the worked study
-    From worked (1 ∷ 4800 ∷ 10000 ∷ 0 ∷ 0 ∷ []) 3 (record { cells = cell 4092 0 4092 0 0 4092 ∷ []; origin = 1816; exit = 4092 })
+    From worked (1 ∷ 4800 ∷ 10000 ∷ 0 ∷ 0 ∷ []) 3 (record { cells = cell 4092 0 4092 0 0 4092 0 ∷ []; origin = 1816; exit = 4092 })
     -- metered ramps, one meter at zero
     ∷ From
     (3 ∷ 190 ∷ 45 ∷ 7 ∷ 2640 ∷ 3 ∷ 60 ∷ 6600 ∷ 1800 ∷ 0 ∷ 0 ∷ 2640 ∷ 3 ∷ 60 ∷ 6600 ∷ 1800 ∷ 0 ∷ 0 ∷ 2640 ∷ 2 ∷ 60 ∷ 4400 ∷ 1800 ∷ 0 ∷ 0 ∷ [])
     (3 ∷ 3500 ∷ 20000 ∷ 600 ∷ 240 ∷ 900 ∷ 400 ∷ 700 ∷ 0 ∷ [])
     5
-    (record { cells = cell 7246 1800 3500 240 0 3506 ∷ cell 6852 2500 3506 400 0 2947 ∷ cell 4390 3500 2947 0 0 1444 ∷ []; origin = 0; exit = 1444 })
+    (record { cells = cell 7246 1800 3500 240 0 3506 0 ∷ cell 6852 2500 3506 400 0 2947 0 ∷ cell 4390 3500 2947 0 0 1444 0 ∷ []; origin = 0; exit = 1444 })
     -- five segments of uneven kinds
     ∷ From
     (5 ∷ 300 ∷ 45 ∷ 50
@@ -81,14 +81,22 @@ traces =
     ∷ [])
     (5 ∷ 20000 ∷ 20000 ∷ 600 ∷ 10000 ∷ 9912 ∷ 0 ∷ 600 ∷ 0 ∷ 0 ∷ 900 ∷ 3210 ∷ 8933 ∷ [])
     4
-    (record {
-      cells = cell 24544 2400 7 0 0 0 ∷ cell 0 39648 0 0 0 0 ∷ cell 0 2400 0 0 0 0 ∷ cell 0 0 0 0 0 0 ∷ cell 1 12836 0 1 0 1 ∷ [];
-      origin = 55456;
-      exit = 1;
-    })
+    (record { cells = cell 24544 2400 7 0 0 0 0 ∷ cell 0 39648 0 0 0 0 0 ∷ cell 0 2400 0 0 0 0 0 ∷ cell 0 0 0 0 0 0 0 ∷ cell 1 12836 0 1 0 1 750 ∷ []; origin = 55456; exit = 1 })
+    -- remainders in light traffic (document 02, Q-3)
+    ∷ From
+    (5 ∷ 190 ∷ 45 ∷ 7
+    ∷ 2640 ∷ 3 ∷ 60 ∷ 6600 ∷ 0 ∷ 333 ∷ 10000
+    ∷ 2640 ∷ 3 ∷ 60 ∷ 6600 ∷ 0 ∷ 1 ∷ 1
+    ∷ 2640 ∷ 3 ∷ 60 ∷ 6600 ∷ 0 ∷ 999 ∷ 10000
+    ∷ 2640 ∷ 3 ∷ 60 ∷ 6600 ∷ 0 ∷ 1000 ∷ 3
+    ∷ 2640 ∷ 3 ∷ 60 ∷ 6600 ∷ 0 ∷ 250 ∷ 0
+    ∷ [])
+    (5 ∷ 7 ∷ 20000 ∷ 0 ∷ 0 ∷ 0 ∷ 0 ∷ 0 ∷ 0 ∷ 0 ∷ 0 ∷ 0 ∷ 0 ∷ [])
+    12
+    (record { cells = cell 13 0 7 0 2 7 643 ∷ cell 9 0 5 0 0 4 39 ∷ cell 8 0 4 0 5 5 969 ∷ cell 0 0 0 0 0 0 0 ∷ cell 0 0 0 0 0 0 0 ∷ []; origin = 0; exit = 0 })
     ∷ []
 
 -- every trace is what the first rules give
 every-trace : AllAgree traces
-unfolding AllAgree Agrees traces worked after cell stepped replaced mainFlowAt queuedAt mainWishAt splitOf wishOf mostOf onwardOf queuedOf rampWishOf entranceOf supplyOf inflowOf leavingOf movedOf firstConditions firstDemand firstMeter demandUnder outletUnder valuesTo roadGlobals segmentOf periodGlobals leaving mainFlow rampFlow supply entrance loweredBy rampWish mostLeaving through off wishToLeave partsAt roundedUp largest
-every-trace = (refl, (refl, (refl, tt)))
+unfolding AllAgree Agrees traces worked after cell stepped replaced mainFlowAt queuedAt mainWishAt splitOf wishOf mostOf onwardOf queuedOf rampWishOf entranceOf supplyOf inflowOf leavingOf movedOf firstConditions firstDemand firstMeter demandUnder outletUnder valuesTo roadGlobals segmentOf periodGlobals leaving mainFlow rampFlow supply entrance loweredBy rampWish mostLeaving through off remainderAfter wishToLeave partsAt roundedUp largest
+every-trace = (refl, (refl, (refl, (refl, tt))))

@@ -1,5 +1,5 @@
--- The list statement at three lists of calls on the worked study's road, refused calls among them: whatever the calls of the facility give,
--- these are the answers.
+-- The list statement at four lists of calls on the worked study's road, the last with an off-ramp, refused calls among them: whatever the calls of the
+-- facility give, these are the answers.
 use mathlib.Core.Path.{_≡_, refl, _∙_}
 use mathlib.Core.List.{List, [], _∷_}
 use Prim.Native.Nat.{ℕ}
@@ -12,7 +12,7 @@ use Rattle.sheets.specs.Read.{readRow, roadFrom, readRoad, readPeriod, sheetRea
 use Rattle.letters.specs.declared.Level.the-variants.{A, D, F}
 use Rattle.conditions.specs.Values.{valuesTo}
 use Rattle.conditions.specs.Conditions.{openCapacity, partsAt, loweredBy, inForce, demandUnder, outletUnder, entryUnder, conditionsOf}
-use Rattle.rules.specs.Rules.{largest, roundedUp, wishToLeave, off, through, mostLeaving, rampWish, entrance, supply, rampFlow, mainFlow, leaving}
+use Rattle.rules.specs.Rules.{largest, roundedUp, wishToLeave, off, remainderAfter, through, mostLeaving, rampWish, entrance, supply, rampFlow, mainFlow, leaving}
 use Rattle.segment.specs.Place.{splitOf, wishOf, mostOf, onwardOf, queuedOf, rampWishOf, entranceOf, supplyOf, inflowOf, leavingOf, movedOf}
 use Rattle.steps.specs.Step.{mainWishAt, queuedAt, mainFlowAt, replaced, stepped, sumTo, arrivedOf, leftOf, storedOf}
 use Rattle.letters.specs.Level.{holdsAtMost, levelBy, levelOf}
@@ -97,12 +97,38 @@ saidLettered =
     ∷ Reported (record { n = 2046; q = 0; main = 2046; ramp = 0; off = 0; out = 2046 }) D
     ∷ []
 
+-- the road with an off-ramp of share 333, and a sheet by which 3 arrive in a step
+abbrev offRoad : List ℕ
+offRoad = 0x01 ∷ 0xBE ∷ 0x01 ∷ 0x2D ∷ 0x07 ∷ 0xA8 ∷ 0x0A ∷ 0x02 ∷ 0x3C ∷ 0xB0 ∷ 0x22 ∷ 0x00 ∷ 0xCD ∷ 0x02 ∷ 0x90 ∷ 0x4E ∷ []
+
+abbrev light : List ℕ
+light = 0x01 ∷ 0x03 ∷ 0x90 ∷ 0x4E ∷ 0x00 ∷ 0x00 ∷ 0x02 ∷ []
+
+-- of 3 that leave the off-ramp's share is 0.999: nobody in the first step in which they leave, then one in each, also in the first step of the next
+-- period, for the remainder is carried on, and a refused run does not change it
+abbrev carried : List Call
+carried = Take light ∷ Run 2 ∷ Report 1 ∷ Run 58 ∷ Report 1 ∷ Run 1 ∷ Take light ∷ Run 1 ∷ Report 1 ∷ []
+
+abbrev saidCarried : List Answer
+saidCarried =
+    Taken 7
+    ∷ Ran
+    ∷ Reported (record { n = 3; q = 0; main = 3; ramp = 0; off = 0; out = 3 }) A
+    ∷ Ran
+    ∷ Reported (record { n = 3; q = 0; main = 3; ramp = 0; off = 1; out = 3 }) A
+    ∷ Refused 11 0
+    ∷ Taken 7
+    ∷ Ran
+    ∷ Reported (record { n = 3; q = 0; main = 3; ramp = 0; off = 1; out = 3 }) A
+    ∷ []
+
 computed :
     (answers (opened (roadOf road)) calls ≡ said)
     × (answers (opened (roadOf road)) filled ≡ saidFilled)
     × (answers (opened (roadOf road)) lettered ≡ saidLettered)
-unfolding readNumber groups last more placed inRange readField roadRange periodRange rangeOf countOf roadGlobals segmentOf periodGlobals entryOf onto andThen fields readRow roadFrom readRoad readPeriod sheetReading largest roundedUp partsAt wishToLeave off through mostLeaving rampWish entrance supply rampFlow mainFlow leaving valuesTo openCapacity loweredBy inForce demandUnder outletUnder entryUnder conditionsOf splitOf wishOf mostOf onwardOf queuedOf rampWishOf entranceOf supplyOf inflowOf leavingOf movedOf mainWishAt queuedAt mainFlowAt replaced stepped sumTo arrivedOf leftOf storedOf holdsAtMost levelBy levelOf unfinished takeVerdict runVerdict reportVerdict arrivedIn leftIn partstepsIn
-computed = (refl, refl, refl)
+    × (answers (opened (roadOf offRoad)) carried ≡ saidCarried)
+unfolding readNumber groups last more placed inRange readField roadRange periodRange rangeOf countOf roadGlobals segmentOf periodGlobals entryOf onto andThen fields readRow roadFrom readRoad readPeriod sheetReading largest roundedUp partsAt wishToLeave off remainderAfter through mostLeaving rampWish entrance supply rampFlow mainFlow leaving valuesTo openCapacity loweredBy inForce demandUnder outletUnder entryUnder conditionsOf splitOf wishOf mostOf onwardOf queuedOf rampWishOf entranceOf supplyOf inflowOf leavingOf movedOf mainWishAt queuedAt mainFlowAt replaced stepped sumTo arrivedOf leftOf storedOf holdsAtMost levelBy levelOf unfinished takeVerdict runVerdict reportVerdict arrivedIn leftIn partstepsIn
+computed = (refl, refl, refl, refl)
 
 -- so these are the answers of the facility's calls
 pub example : (xs : List Answer) (g : Facility) → Played road calls xs g → xs ≡ said
@@ -114,7 +140,10 @@ example-filled xs g p = theorem p .answered ∙ computed .1
 pub example-lettered : (xs : List Answer) (g : Facility) → Played road lettered xs g → xs ≡ saidLettered
 example-lettered xs g p = theorem p .answered ∙ computed .2
 
--- and the road is one that laying accepts
-pub accepted : AcceptedRoad road
+pub example-carried : (xs : List Answer) (g : Facility) → Played offRoad carried xs g → xs ≡ saidCarried
+example-carried xs g p = theorem p .answered ∙ computed .3
+
+-- and both roads are ones that laying accepts
+pub accepted : AcceptedRoad road × AcceptedRoad offRoad
 unfolding readNumber groups last more placed inRange readField roadRange rangeOf countOf onto andThen fields readRow roadFrom readRoad
-accepted = (_, _, refl)
+accepted = ((_, _, refl), (_, _, refl))

@@ -8,7 +8,7 @@ use Rattle.numbers.specs.Row.{onto, andThen, fields}
 use Rattle.sheets.specs.Read.{readRow, roadFrom, readRoad, readPeriod}
 use Rattle.conditions.specs.Values.{valuesTo}
 use Rattle.conditions.specs.Conditions.{openCapacity, partsAt, loweredBy, inForce, demandUnder, outletUnder, entryUnder, conditionsOf}
-use Rattle.rules.specs.Rules.{largest, roundedUp, wishToLeave, off, through, mostLeaving, rampWish, entrance, supply, rampFlow, mainFlow, leaving}
+use Rattle.rules.specs.Rules.{largest, roundedUp, wishToLeave, off, remainderAfter, through, mostLeaving, rampWish, entrance, supply, rampFlow, mainFlow, leaving}
 use Rattle.segment.specs.Place.{splitOf, wishOf, mostOf, onwardOf, queuedOf, rampWishOf, entranceOf, supplyOf, inflowOf, leavingOf, movedOf}
 use Rattle.steps.specs.Step.{mainWishAt, queuedAt, mainFlowAt, replaced, stepped, sumTo, arrivedOf, leftOf}
 use Rattle.facility.specs.Ledger.{arrivedIn, leftIn, partstepsIn}
@@ -17,5 +17,5 @@ use Rattle.list_example.specs.Starred.{AllAgree, table}
 
 -- THE STATEMENT: every row holds
 pub every-row : AllAgree table
-unfolding readNumber groups last more placed inRange readField roadRange periodRange rangeOf countOf roadGlobals segmentOf periodGlobals entryOf onto andThen fields readRow roadFrom readRoad readPeriod largest roundedUp partsAt wishToLeave off through mostLeaving rampWish entrance supply rampFlow mainFlow leaving valuesTo openCapacity loweredBy inForce demandUnder outletUnder entryUnder conditionsOf splitOf wishOf mostOf onwardOf queuedOf rampWishOf entranceOf supplyOf inflowOf leavingOf movedOf mainWishAt queuedAt mainFlowAt replaced stepped sumTo arrivedOf leftOf takeVerdict runVerdict unfinished arrivedIn leftIn partstepsIn
+unfolding readNumber groups last more placed inRange readField roadRange periodRange rangeOf countOf roadGlobals segmentOf periodGlobals entryOf onto andThen fields readRow roadFrom readRoad readPeriod largest roundedUp partsAt wishToLeave off remainderAfter through mostLeaving rampWish entrance supply rampFlow mainFlow leaving valuesTo openCapacity loweredBy inForce demandUnder outletUnder entryUnder conditionsOf splitOf wishOf mostOf onwardOf queuedOf rampWishOf entranceOf supplyOf inflowOf leavingOf movedOf mainWishAt queuedAt mainFlowAt replaced stepped sumTo arrivedOf leftOf takeVerdict runVerdict unfinished arrivedIn leftIn partstepsIn
 every-row = (refl, (refl, (refl, (refl, (refl, (refl, ((refl, refl), ((refl, refl), ((refl, refl), ((refl, refl), (refl, (refl, tt))))))))))))

@@ -45,9 +45,9 @@ abbrev stepsAfter : Rows → List ℕ → ℕ → Steps
 stepsAfter (ReadRow row used) bytes k = stepsOn (bookAfter (opened (padded row)) (Take (drop used bytes) ∷ Run k ∷ []))
 stepsAfter (RefusedAt number offset) bytes k = stepsOn (opened [])
 
--- a split by the share s
+-- a split by the share s, with remainder 0 (document 02, Q-3: "Starred cases hold with remainder 0")
 abbrev by : ℕ → SplitBy
-by s = record { share = s }
+by s = record { share = s; remainder = 0 }
 
 -- the row is what the definitions say
 abbrev pub Agrees : Row → Type 0

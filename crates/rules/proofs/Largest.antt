@@ -1,11 +1,13 @@
 -- The largest number up to a bound that passes a test: what is known of it.
-use Prim.Native.Nat.{ℕ, zero, suc, _≤_, min}
+use Prim.Native.Nat.{ℕ, zero, suc, _≤_, _<_, min}
 use mathlib.Core.Bool.{Bool, true, false}
-use mathlib.Core.Path.{_≡_, refl}
+use mathlib.Core.Path.{_≡_, refl, sym, _∙_}
+use mathlib.Core.Logic.{_↔_}
 use native.Mathlib.Omega.{arith}
 use lib.Dec.{leb}
-use borrow.Author.Tests.{leb-true, leb-false}
+use borrow.Author.Tests.{leb-true, leb-false, lt-leb}
 use Rattle.numbers.specs.Choice.{if_then_else_}
+use Rattle.arithmetic.proofs.Tests.{leb-iff}
 use Rattle.rules.specs.Rules.{largest}
 
 -- ---- of any test
@@ -40,10 +42,16 @@ one-more b m true e = omega (arith, leb-true (suc b) m e)
 one-more b m false e = omega (arith, leb-false (suc b) m e)
 
 -- where the test says that y is at most m, it is the lesser of the bound and m
-pub largest-min : (p : ℕ → Bool) (m b : ℕ) → ((y : ℕ) → p y ≡ leb y m) → largest p b ≡ min b m
+largest-min : (p : ℕ → Bool) (m b : ℕ) → ((y : ℕ) → p y ≡ leb y m) → largest p b ≡ min b m
 unfolding largest
 largest-min p m zero h = omega arith
 largest-min p m (suc b) h = rw (h (suc b), largest-min p m b h) (one-more b m (leb (suc b) m) refl)
+
+-- where a function is at most f just up to m, and above f at the bound, it is m
+pub largest-bound : (g : ℕ → ℕ) (f m b : ℕ) → ((y : ℕ) → (g y ≤ f) ↔ (y ≤ m)) → f < g b → largest (λ y. leb (g y) f) b ≡ m
+largest-bound g f m b bound h =
+    let same : (y : ℕ) → leb (g y) f ≡ leb y m = λ y. leb-iff _ _ _ _ (bound y) in
+    omega (arith, largest-min (λ y. leb (g y) f) m b same, leb-false b m (sym (same b) ∙ lt-leb (g b) f h))
 
 -- ---- of a test by a function that starts at zero and rises by at most one
 reaches : (g : ℕ → ℕ) (f b x : ℕ) (t : Bool) →

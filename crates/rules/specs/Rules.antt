@@ -1,10 +1,11 @@
 -- Document 01, "One step": each rule as a formula, in the paper's order; C, the lowered C, J, Q and the lanes are those in force, which stand
 -- in the conditions. Every difference is zero where it would be negative, J − n too (document 02, Q-1).
-use Prim.Native.Nat.{ℕ, zero, suc, _+_, _-_, _*_, _/_, min, max}
+use Prim.Native.Nat.{ℕ, zero, suc, _+_, _-_, _*_, _/_, _%_, min, max}
 use mathlib.Core.Bool.{Bool}
 use lib.Dec.{leb}
 use Rattle.numbers.specs.Choice.{if_then_else_}
 use Rattle.rules.specs.declared.Split.{Split}
+use Rattle.rules.specs.declared.Outflow.{Outflow}
 use Rattle.rules.specs.declared.Flow.{Flow}
 
 -- the largest y up to b that passes the test, by search from the top
@@ -20,13 +21,21 @@ roundedUp a b = (a + (b - 1)) / b
 unfoldable pub wishToLeave : (parts capacity speed length : ℕ) → ℕ
 wishToLeave n c v l = min n (min c (roundedUp (n * 22 * v) l))
 
--- off(y) = y × s / 1000, of what the split goes by
+-- off(y) = (y × s + remainder) / 1000, of what the split goes by (document 02, Q-3)
 unfoldable pub off : Split → (leaving : ℕ) → ℕ
-off s y = y * s .share / 1000
+off s y = (y * s .share + s .remainder) / 1000
+
+-- the remainder after the step: what that division leaves, for the y that leaves
+unfoldable pub remainderAfter : Split → (leaving : ℕ) → ℕ
+remainderAfter s y = (y * s .share + s .remainder) % 1000
 
 -- through(y) = y − off(y)
 unfoldable pub through : Split → (leaving : ℕ) → ℕ
 through s y = y - off s y
+
+-- what leaves where y do: y, through(y) of them by the mainline, and the remainder after
+abbrev pub outflow : Split → (leaving : ℕ) → Outflow
+outflow s y = record { out = y; onward = through s y; remainder = remainderAfter s y }
 
 -- Y0: the largest y up to D with off(y) at most F
 unfoldable pub mostLeaving : Split → (offramp wish : ℕ) → ℕ

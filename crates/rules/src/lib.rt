@@ -5,12 +5,20 @@ use arithmetic::wide;
 ghost use mathlib.Core.Path.{_≡_};
 ghost use Prim.Native.Nat.{ℕ, _*_, _≤_, _<_};
 ghost use Rattle.conditions.specs.Shortcuts.{fullFrom};
-ghost use Rattle.rules.specs.Rules.{wishToLeave, off, through, mostLeaving, rampWish, supply, rampFlow, mainFlow, merge, leaving};
+ghost use Rattle.rules.specs.Rules.{wishToLeave, off, through, outflow, mostLeaving, rampWish, supply, rampFlow, mainFlow, merge, leaving};
 ghost use Rattle.rules.specs.Good.{GoodSplit};
 
-// What the split of leaving parts goes by.
+// What the split of leaving parts goes by: the share s, and the remainder at the step's start.
 pub struct Split {
     pub share: u32,
+    pub remainder: u32,
+}
+
+// What leaves a segment: y of them, through(y) by the mainline; and the remainder after.
+pub struct Outflow {
+    pub out: u32,
+    pub onward: u32,
+    pub remainder: u32,
 }
 
 // What enters at a node: the mainline flow f and the ramp flow r.
@@ -30,30 +38,32 @@ pub fn wish_to_leave(n: u32, capacity: u32, length: u32, reach: u32, full: u32) 
     least(n, capacity)
 }
 
-// off(y), and what is left of y: through(y).
-fn off_of(split: Split, y: u32) -> u32
-    requires { ⌜ GoodSplit split × (y ≤ 20000) ⌝ }
-    ensures { λ r. ⌜ r ≡ off split y ⌝ }
+// What leaves where y do and `gone` of them by the off-ramp: with off(y) known, without a division.
+fn outflow_by(split: Split, y: u32, gone: u32) -> Outflow
+    requires { ⌜ GoodSplit split × (y ≤ 20000) × (gone ≡ off split y) ⌝ }
+    ensures { λ r. ⌜ r ≡ outflow split y ⌝ }
 {
-    y * split.share / 1000
-}
-
-pub fn through_of(split: Split, y: u32) -> u32
-    requires { ⌜ GoodSplit split × (y ≤ 20000) ⌝ }
-    ensures { λ r. ⌜ r ≡ through split y ⌝ }
-{
-    y - off_of(split, y)
-}
-
-// Y0: all who wish to leave, or as many as the off-ramp's capacity lets.
-pub fn most_leaving(split: Split, offramp: u32, wish: u32) -> u32
-    requires { ⌜ GoodSplit split × (offramp ≤ 10000) × (wish ≤ 20000) ⌝ }
-    ensures { λ r. ⌜ r ≡ mostLeaving split offramp wish ⌝ }
-{
-    if off_of(split, wish) <= offramp {
-        return wish;
+    Outflow {
+        out: y,
+        onward: y - gone,
+        remainder: y * split.share + split.remainder - 1000 * gone,
     }
-    ((offramp + 1) * 1000 - 1) / split.share
+}
+
+// What leaves where Y0 do: all who wish, or as many as the off-ramp's capacity lets, and then it is full.
+pub fn most_leaving(split: Split, offramp: u32, wish: u32) -> Outflow
+    requires { ⌜ GoodSplit split × (offramp ≤ 10000) × (wish ≤ 20000) ⌝ }
+    ensures { λ r. ⌜ r ≡ outflow split (mostLeaving split offramp wish) ⌝ }
+{
+    if split.share == 0 {
+        return outflow_by(split, wish, 0);
+    }
+    let off = (wish * split.share + split.remainder) / 1000;
+    if off <= offramp {
+        return outflow_by(split, wish, off);
+    }
+    let most = ((offramp + 1) * 1000 - 1 - split.remainder) / split.share;
+    outflow_by(split, most, offramp)
 }
 
 // W.
@@ -113,13 +123,14 @@ pub fn merged(p: u32, lanes: u32, m: u32, w: u32) -> Flow
     }
 }
 
-// y, by what all who may leave send on: all, or as many as the node ahead takes of those who go on.
-pub fn leaving_of(split: Split, most: u32, wish: u32, ahead: u32) -> u32
-    requires { ⌜ GoodSplit split × (most ≤ 20000) × (wish ≡ through split most) ⌝ }
-    ensures { λ r. ⌜ r ≡ leaving split most ahead ⌝ }
+// What leaves where y do, with fewer let in ahead than would go on of `most`, which are Y0.
+pub fn held_back(split: Split, most: u32, ahead: u32) -> Outflow
+    requires { ⌜ GoodSplit split × (most ≤ 20000) × (ahead < through split most) ⌝ }
+    ensures { λ r. ⌜ r ≡ outflow split (leaving split most ahead) ⌝ }
 {
-    if wish <= ahead {
-        return most;
+    if split.share == 0 {
+        return outflow_by(split, ahead, 0);
     }
-    1000 * ahead / (1000 - split.share)
+    let y = (1000 * ahead + split.remainder) / (1000 - split.share);
+    outflow_by(split, y, y - ahead)
 }

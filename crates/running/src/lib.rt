@@ -18,7 +18,7 @@ pub fn make_steps(f: Facility, k: u32) -> Facility
     let mut row = [0u32; 835];
     conditions::work_out(&road, &period, &mut row);
     let arrives = wide(steps::arrived(&row));
-    let mut cells = [0u32; 384];
+    let mut cells = [0u32; 448];
     steps::put_cells(&mut cells, state);
     let mut ends = Ends {
         origin: state.origin,

@@ -6,18 +6,19 @@ use native.Mathlib.Omega.{arith}
 use lib.ListN.{length}
 use Rattle.segment.specs.declared.Cell.{Cell}
 use Rattle.conditions.specs.declared.InForce.{InForce}
+use Rattle.rules.specs.declared.Flow.{Flow}
 use Rattle.rules.specs.Rules.{off, through, entrance}
 use Rattle.segment.specs.Place.{splitOf, wishOf, mostOf, onwardOf, rampWishOf, entranceOf, supplyOf, inflowOf, leavingOf, movedOf}
 use Rattle.rules.proofs.Formulas.{entrance-most, main-flow-most, merge-exact, ramp-flow-most, ramp-flow-share-least, ramp-wish-most-queue, ramp-wish-most-limit, supply-most-entrance, supply-most-room, wish-most-capacity, wish-most-parts}
 use Rattle.rules.specs.Good.{GoodSplit}
-use Rattle.rules.proofs.Splits.{off-rises, split-whole, most-leaving-most, most-leaving-off, leaving-most, leaving-through}
+use Rattle.rules.proofs.Splits.{off-exact, off-rises, remainder-below, split-whole, most-leaving-most, most-leaving-off, leaving-most, leaving-through}
 use Rattle.conditions.specs.Good.{GoodPlace}
 use Rattle.segment.specs.Bounded.{BoundedCell}
 
 module _ (here : InForce) (cell : Cell) where
   pub good-split : {t : ℕ} → GoodPlace here → BoundedCell t cell → GoodSplit (splitOf here cell)
   unfolding splitOf
-  good-split good held = record { share = good .share }
+  good-split good held = record { share = good .share; remainder = held .remainder }
 
   -- ---- what the node at its entrance lets in, of M and whether a queue stands before it
   module _ (m : ℕ) (queued : Bool) where
@@ -113,3 +114,14 @@ module _ (here : InForce) (cell : Cell) where
     unfolding mostOf
     off-most-at good =
         omega (arith, off-rises (splitOf here cell) _ _ leaving-at-most, most-leaving-off (splitOf here cell) (here .offramp) (wishOf here cell) good)
+
+  -- ---- the off-ramp gets its share of y to the part: what it gets and what remains are the share and what remained before, and less than a part remains
+  module _ (flow : Flow) (y : ℕ) where
+    pub off-share :
+        movedOf here cell flow y .off * 1000 + movedOf here cell flow y .remainder ≡ movedOf here cell flow y .out * here .share + cell .remainder
+    unfolding movedOf splitOf
+    off-share = off-exact (splitOf here cell) y
+
+    pub remains : movedOf here cell flow y .remainder < 1000
+    unfolding movedOf
+    remains = remainder-below (splitOf here cell) y

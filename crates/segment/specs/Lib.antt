@@ -1,3 +1,4 @@
 pub mod Place
 pub mod Bounded
+pub mod Entered
 pub mod Movable

@@ -1,19 +1,16 @@
--- What moving a cell on asks, so that its arithmetic fits: no rule of document 01.
-use Prim.Native.Nat.{ℕ, _+_, _≤_}
+-- What moving a cell on asks: no rule of document 01.
+use Prim.Native.Nat.{_+_, _-_, _≤_}
 use mathlib.Core.Path.{_≡_}
 use Rattle.conditions.specs.declared.InForce.{InForce}
 use Rattle.segment.specs.declared.Cell.{Cell}
-use Rattle.rules.specs.declared.Flow.{Flow}
-use Rattle.segment.specs.declared.Sent.{Sent}
-use Rattle.segment.specs.Place.{sentOf}
+use Rattle.segment.specs.declared.Entered.{Entered}
 use Rattle.conditions.specs.Good.{GoodPlace}
 use Rattle.segment.specs.Bounded.{BoundedCell}
 
--- bounds, and a flow ahead of at most through(Y0), so that y less that flow is off(y)
-pub record Movable (here : InForce) (cell : Cell) (flow : Flow) (sent : Sent) (ahead : ℕ) : Type 0 where
+-- bounds of what is there and of what entered, so that the arithmetic fits, and the ramp's queue that is left
+pub record Movable (here : InForce) (cell : Cell) (came : Entered) : Type 0 where
   pub good : GoodPlace here
   pub bounded : BoundedCell 5760 cell
-  pub main-most : flow .main ≤ 20000
-  pub ramp-most : (flow .ramp ≤ 10000) × (flow .ramp ≤ cell .q + here .demand)
-  pub sent-is : sent ≡ sentOf here cell
-  pub ahead-most : ahead ≤ sent .onward
+  pub main-most : came .main ≤ 20000
+  pub ramp-most : came .ramp ≤ 10000
+  pub queue-is : came .queue ≡ cell .q + here .demand - came .ramp

@@ -7,12 +7,12 @@ use Rattle.rules.specs.declared.Split.{Split}
 use Rattle.segment.specs.declared.Cell.{Cell}
 use Rattle.rules.specs.declared.Flow.{Flow}
 use Rattle.segment.specs.declared.Sent.{Sent}
-use Rattle.rules.specs.Rules.{wishToLeave, off, through, mostLeaving, rampWish, entrance, supply, merge, leaving}
+use Rattle.rules.specs.Rules.{wishToLeave, off, remainderAfter, through, outflow, mostLeaving, rampWish, entrance, supply, merge, leaving}
 
 module _ (here : InForce) (cell : Cell) where
-  -- what off(y) and through(y) go by: the share s; the cell stands here for a split that goes by more
+  -- what off(y) and through(y) go by: the share s, and the remainder at the step's start
   unfoldable pub splitOf : Split
-  splitOf = record { share = here .share }
+  splitOf = record { share = here .share; remainder = cell .remainder }
 
   -- D
   unfoldable pub wishOf : ℕ
@@ -30,9 +30,9 @@ module _ (here : InForce) (cell : Cell) where
   unfoldable pub queuedOf : Bool
   queuedOf = ltb (here .critical) (cell .n)
 
-  -- what the segment sends on: Y0, through(Y0) and whether it is queued
+  -- what the segment sends on: what leaves where Y0 do, and whether it is queued
   unfoldable pub sentOf : Sent
-  sentOf = record { most = mostOf; onward = onwardOf; queued = queuedOf }
+  sentOf = record { most = outflow splitOf mostOf; queued = queuedOf }
 
   -- W
   unfoldable pub rampWishOf : ℕ
@@ -54,7 +54,7 @@ module _ (here : InForce) (cell : Cell) where
   unfoldable pub leavingOf : (ahead : ℕ) → ℕ
   leavingOf ahead = leaving splitOf mostOf ahead
 
-  -- after the step, by f and r, and y: n + f + r − y, q + ramp demand − r, and the step's flows
+  -- after the step, by f and r, and y: n + f + r − y, q + ramp demand − r, the step's flows, and the remainder that off(y) left
   unfoldable pub movedOf : Flow → (leaving : ℕ) → Cell
   movedOf flow y = record {
     n = cell .n + flow .main + flow .ramp - y;
@@ -63,4 +63,5 @@ module _ (here : InForce) (cell : Cell) where
     ramp = flow .ramp;
     off = off splitOf y;
     out = y;
+    remainder = remainderAfter splitOf y;
   }

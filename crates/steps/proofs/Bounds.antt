@@ -7,16 +7,16 @@ use Rattle.segment.specs.declared.Cell.{Cell}
 use Rattle.steps.specs.declared.State.{State}
 use Rattle.conditions.specs.Conditions.{Conditions, inForceAt}
 use Rattle.segment.specs.Place.{movedOf}
-use Rattle.steps.specs.Step.{noCell, freshState, cellIn, mainFlowAt, nextCell, stepped, arrivedOf, leftOf}
+use Rattle.steps.specs.Step.{noCell, freshState, cellIn, flowAt, mainFlowAt, nextCell, stepped, arrivedOf, leftOf}
 use Rattle.conditions.specs.Good.{GoodConditions}
 use Rattle.segment.specs.Bounded.{BoundedCell}
 use Rattle.steps.specs.Bounded.{Bounded}
-use Rattle.segment.proofs.Laws.{off-most-at}
+use Rattle.segment.proofs.Laws.{off-most-at, remains}
 use Rattle.steps.proofs.Laws.{split-at, exit-exact, held-at}
 use Rattle.steps.proofs.Sums.{replaced-either, sum-most}
 
 pub cell-longer : (s t : ℕ) (cell : Cell) → s ≤ t → BoundedCell s cell → BoundedCell t cell
-cell-longer s t cell h b = record { parts = b .parts; queue = omega (arith, b .queue) }
+cell-longer s t cell h b = record { parts = b .parts; queue = omega (arith, b .queue); remainder = b .remainder }
 
 pub bounded-longer : (ns s t : ℕ) (state : State) → s ≤ t → Bounded ns s state → Bounded ns t state
 bounded-longer ns s t state h b = record {
@@ -25,7 +25,7 @@ bounded-longer ns s t state h b = record {
 }
 
 cell-none : (t : ℕ) → BoundedCell t noCell
-cell-none t = record { parts = omega arith; queue = omega arith }
+cell-none t = record { parts = omega arith; queue = omega arith; remainder = omega arith }
 
 none-at : (n i : ℕ) → getD (replicate n noCell) i noCell ≡ noCell
 none-at zero i = refl
@@ -65,6 +65,7 @@ module _ (c : Conditions) (state : State) {t : ℕ} (good : GoodConditions c) (b
   held-after i h = record {
     parts = omega (arith, held-at c state i, good .place i h .jam, bounded .cells i h .parts);
     queue = omega (arith, good .place i h .demand, bounded .cells i h .queue);
+    remainder = remains (inForceAt c i) (cellIn state i) (flowAt c state i) _;
   }
 
   -- what holds of the rules' cell and of none holds of a cell after the step

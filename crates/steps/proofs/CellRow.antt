@@ -27,9 +27,9 @@ module _ (row : List ℕ) (i : ℕ) (cell : Cell) where
   unfolding withCell
   with-cell-length = puts-length _ _ _ _
 
-  module _ (h : 6 * i + 5 < length row) where
-    put-at : (m : ℕ) → m < 6 → getD (puts row (6 * i) 0 (cellNumbers cell)) (6 * i + (0 + m)) 0 ≡ getD (cellNumbers cell) m 0
-    put-at m s = puts-at row (6 * i) 0 m (cellNumbers cell) s (omega arith)
+  module _ (h : 7 * i + 6 < length row) where
+    put-at : (m : ℕ) → m < 7 → getD (puts row (7 * i) 0 (cellNumbers cell)) (7 * i + (0 + m)) 0 ≡ getD (cellNumbers cell) m 0
+    put-at m s = puts-at row (7 * i) 0 m (cellNumbers cell) s (omega arith)
 
     with-cell-at : cellAt (withCell row i cell) i ≡ cell
     unfolding cellAt withCell
@@ -41,10 +41,11 @@ module _ (row : List ℕ) (i : ℕ) (cell : Cell) where
           put-at 3 (omega arith),
           put-at 4 (omega arith),
           put-at 5 (omega arith),
+          put-at 6 (omega arith),
         )
 
   -- before it and behind it
-  with-cell-stays : (j : ℕ) → ((m : ℕ) → m < 6 → getD (puts row (6 * i) 0 (cellNumbers cell)) (6 * j + m) 0 ≡ getD row (6 * j + m) 0)
+  with-cell-stays : (j : ℕ) → ((m : ℕ) → m < 7 → getD (puts row (7 * i) 0 (cellNumbers cell)) (7 * j + m) 0 ≡ getD row (7 * j + m) 0)
       → cellAt (withCell row i cell) j ≡ cellAt row j
   unfolding cellAt withCell
   with-cell-stays j stays =
@@ -55,15 +56,16 @@ module _ (row : List ℕ) (i : ℕ) (cell : Cell) where
         stays 3 (omega arith),
         stays 4 (omega arith),
         stays 5 (omega arith),
+        stays 6 (omega arith),
       )
 
   with-cell-before : (j : ℕ) → j < i → cellAt (withCell row i cell) j ≡ cellAt row j
-  with-cell-before j h = with-cell-stays j (λ m s. puts-before row (6 * i) 0 (6 * j + m) (cellNumbers cell) (omega arith))
+  with-cell-before j h = with-cell-stays j (λ m s. puts-before row (7 * i) 0 (7 * j + m) (cellNumbers cell) (omega arith))
 
   with-cell-behind : (j : ℕ) → i < j → cellAt (withCell row i cell) j ≡ cellAt row j
-  with-cell-behind j h = with-cell-stays j (λ m s. puts-after row (6 * i) 0 (6 * j + m) (cellNumbers cell) (omega arith))
+  with-cell-behind j h = with-cell-stays j (λ m s. puts-after row (7 * i) 0 (7 * j + m) (cellNumbers cell) (omega arith))
 
-  module _ (long : length row ≡ 384) (h : i < 64) where
+  module _ (long : length row ≡ 448) (h : i < 64) where
     put-same : (j : ℕ) → j < 64 → (t : Bool) → ltb j i ≡ t → cellAt (withCell row i cell) j ≡ getD (set (cellsIn row) i cell) j noCell
     put-same j l true e =
         let b = ltb-true j i e in

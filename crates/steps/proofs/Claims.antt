@@ -9,10 +9,10 @@ use borrow.Author.Tests.{lt-ltb, le-ltb}
 use Rattle.steps.specs.declared.State.{State}
 use Rattle.conditions.specs.Conditions.{Conditions, inForceAt}
 use Rattle.segment.specs.Place.{movedOf}
-use Rattle.steps.specs.Step.{cellIn, mainFlowAt, nextCell, stepped}
+use Rattle.steps.specs.Step.{cellIn, flowAt, mainFlowAt, nextCell, stepped}
 use Rattle.conditions.specs.Good.{GoodConditions}
 use Rattle.steps.specs.Bounded.{Bounded}
-use Rattle.segment.proofs.Laws.{inflow-exact, let-out, let-out-parts, taken-in}
+use Rattle.segment.proofs.Laws.{inflow-exact, let-out, let-out-parts, off-share, remains, taken-in}
 use Rattle.steps.proofs.Laws.{split-at, exit-exact, gone-at, held-at, none-let-in-at, main-flow-at, origin-flow, ramp-queue-at, stepped-cell}
 use Rattle.steps.proofs.Balance.{balance}
 use Rattle.steps.specs.Claims.{enteredAt, Holds}
@@ -41,6 +41,8 @@ module _ (c : Conditions) (state : State) {t : ℕ} (good : GoodConditions c) (b
     inflow = λ i h. rw (read i h) (inflow-exact (inForceAt c i) (cellIn state i) _ _);
     exit = exit-exact c state;
     passed-on = λ i h. rw (read i h, entered-stepped (suc i) h) (gone-at c state i (split-at c state good bounded i h));
+    off-share = λ i h. rw (read i h) (off-share (inForceAt c i) (cellIn state i) (flowAt c state i) _);
+    remainder = λ i h. rw (read i h) (remains (inForceAt c i) (cellIn state i) (flowAt c state i) _);
     parts = λ i h. rw (read i h) (omega (arith, let-out-parts (inForceAt c i) (cellIn state i) (mainFlowAt c state (suc i))));
     queues = λ i h. rw (read i h) (omega (arith, ramp-queue-at c state i));
     origin = rw (entered-stepped zero (omega arith)) (omega (arith, origin-flow c state));

@@ -7,73 +7,72 @@ use native.Mathlib.Omega.{arith}
 use lib.ListN.{length, getD}
 use lib.Dec.{ltb}
 use Rattle.segment.specs.declared.Cell.{Cell}
-use Rattle.rules.specs.declared.Flow.{Flow}
+use Rattle.segment.specs.declared.Entered.{Entered}
 use Rattle.segment.specs.declared.Sent.{Sent}
 use Rattle.steps.specs.declared.State.{State}
 use Rattle.conditions.specs.Conditions.{Conditions, inForceAt}
 use Rattle.conditions.proofs.Values.{values-at}
-use Rattle.rules.specs.Rules.{off}
-use Rattle.segment.specs.Place.{sentOf, inflowOf, leavingOf, movedOf}
+use Rattle.segment.specs.Place.{onwardOf, sentOf, inflowOf, leavingOf, movedOf}
 use Rattle.steps.specs.Step.{noCell, cellIn, mainWishAt, queuedAt, flowAt, mainFlowAt, nextCell, replaced, stepped, sumTo, leftOf}
 use Rattle.steps.specs.CellRow.{cellAt, cellsIn, stateIn, withCell}
 use Rattle.steps.proofs.CellRow.{with-cell-length, cells-put}
 use Rattle.conditions.specs.Good.{GoodConditions}
 use Rattle.steps.specs.Bounded.{Bounded}
-use Rattle.segment.proofs.Laws.{ramp-limit, ramp-queue, taken-in}
+use Rattle.segment.proofs.Laws.{ramp-limit, taken-in}
 use Rattle.steps.proofs.Laws.{exit-exact, main-flow-at, origin-flow}
 use Rattle.steps.proofs.Balance.{left-is}
 use Rattle.steps.proofs.Bounds.{off-most-after}
 use Rattle.steps.proofs.Sums.{replaced-beyond, sum-more, sum-most}
 use Rattle.segment.specs.Movable.{Movable}
+use Rattle.segment.specs.Entered.{entered, flowOf}
+
+-- what enters segment i, and the ramp's queue that is left
+abbrev pub cameAt : Conditions → State → ℕ → Entered
+cameAt c state i = entered (flowAt c state i) (mainWishAt c state i) (cellIn state i .q + inForceAt c i .demand)
 
 module _ (c : Conditions) (state : State) (good : GoodConditions c) (bounded : Bounded (c .segments) 5760 state) where
-  pub movable-at : (i : ℕ) (flow : Flow) (sent : Sent) (ahead : ℕ) →
-      i < c .segments →
-      flow ≡ flowAt c state i →
-      sent ≡ sentOf (inForceAt c i) (cellIn state i) →
-      ahead ≤ sent .onward →
-      Movable (inForceAt c i) (cellIn state i) flow sent ahead
-  movable-at i flow sent ahead h f s l =
+  pub movable-at : (i : ℕ) (came : Entered) → i < c .segments → came ≡ cameAt c state i → Movable (inForceAt c i) (cellIn state i) came
+  movable-at i came h f =
       let t = taken-in (inForceAt c i) (cellIn state i) (mainWishAt c state i) (queuedAt c state i) (good .place i h) in
       let r = ramp-limit (inForceAt c i) (cellIn state i) (mainWishAt c state i) (queuedAt c state i) in
-      record {
+      rw f (record {
         good = good .place i h;
         bounded = bounded .cells i h;
-        main-most = rw f (omega (arith, good .place i h .capacity));
-        ramp-most = rw f (omega (arith, good .place i h .limit), ramp-queue (inForceAt c i) (cellIn state i) _ _);
-        sent-is = s;
-        ahead-most = l;
-      }
+        main-most = omega (arith, t, good .place i h .capacity);
+        ramp-most = omega (arith, r, good .place i h .limit);
+        queue-is = refl;
+      })
 
--- the pass before segment i: in the row the cells before it are moved on and the others are not, the flow is the one into it, and left
+-- the pass before segment i: in the row the cells before it are moved on and the others are not, what came is what entered it, and left
 -- counts the off-ramps before it
-pub record Passing (c : Conditions) (state : State) (last origin : ℕ) (row : List ℕ) (flow : Flow) (left i : ℕ) : Type 0 where
+pub record Passing (c : Conditions) (state : State) (last origin : ℕ) (row : List ℕ) (came : Entered) (left i : ℕ) : Type 0 where
   pub up-to : i ≤ last
   pub last-one : last + 1 ≡ c .segments
   pub origin-is : origin ≡ state .origin + c .demand - mainFlowAt c state zero
-  pub long : length row ≡ 384
+  pub long : length row ≡ 448
   pub cells-are : cellsIn row ≡ replaced (nextCell c state) i (state .cells)
-  pub flow-is : flow ≡ flowAt c state i
+  pub came-is : came ≡ cameAt c state i
   pub left-is : left ≡ sumTo (λ j. nextCell c state j .off) i
 
-module _ (c : Conditions) (state : State) (demand : ℕ) (flow : Flow) (good : GoodConditions c) (demands : demand ≡ c .demand)
-    (first : flow ≡ inflowOf (inForceAt c 0) (cellIn state 0) (state .origin + demand) (ltb 0 (state .origin))) where
-  first-flow : flow ≡ flowAt c state 0
+module _ (c : Conditions) (state : State) (demand : ℕ) (came : Entered) (good : GoodConditions c) (demands : demand ≡ c .demand)
+    (first : came ≡ entered (inflowOf (inForceAt c 0) (cellIn state 0) (state .origin + demand) (ltb 0 (state .origin))) (state .origin + demand)
+    (cellIn state 0 .q + inForceAt c 0 .demand)) where
+  first-came : came ≡ cameAt c state 0
   unfolding mainWishAt queuedAt
-  first-flow = rw (first, demands)
+  first-came = rw (first, demands)
 
-  first-main : flow .main ≡ mainFlowAt c state 0
-  first-main = rw (first-flow, main-flow-at c state 0 (omega (arith, good .segments .0)))
+  first-main : came .main ≡ mainFlowAt c state 0
+  first-main = rw (first-came, main-flow-at c state 0 (omega (arith, good .segments .0)))
 
-  pub first-fits : flow .main ≤ state .origin + demand
+  pub first-fits : came .main ≤ state .origin + demand
   first-fits = omega (arith, first-main, origin-flow c state)
 
   -- the pass before its first turn
   pub started : (last : ℕ) (row : List ℕ) →
       last ≡ c .segments - 1 →
-      length row ≡ 384 →
+      length row ≡ 448 →
       cellsIn row ≡ state .cells →
-      Passing c state last (state .origin + demand - flow .main) row flow 0 0
+      Passing c state last (state .origin + demand - came .main) row came 0 0
   unfolding replaced sumTo
   started last row e l same = record {
     up-to = omega arith;
@@ -81,11 +80,11 @@ module _ (c : Conditions) (state : State) (demand : ℕ) (flow : Flow) (good : G
     origin-is = rw (first-main, demands);
     long = l;
     cells-are = same;
-    flow-is = first-flow;
+    came-is = first-came;
     left-is = refl;
   }
 
-module _ (c : Conditions) (state : State) (last origin : ℕ) (row : List ℕ) (flow : Flow) (left i : ℕ) (at : Passing c state last origin row flow left i) where
+module _ (c : Conditions) (state : State) (last origin : ℕ) (row : List ℕ) (came : Entered) (left i : ℕ) (at : Passing c state last origin row came left i) where
   -- from segment i on the row has the cells of the step's start
   pub still : (j : ℕ) → i ≤ j → j < 64 → cellAt row j ≡ cellIn state j
   still j h l =
@@ -113,23 +112,25 @@ module _ (c : Conditions) (state : State) (last origin : ℕ) (row : List ℕ) (
     next-left after e = sum-more (λ j. nextCell c state j .off) i left (after .off) (at .left-is) (rw e)
 
     -- a turn of a segment before the last
-    pub turned : (ahead : Flow) (after : Cell) →
+    pub turned : (ahead : Entered) (after : Cell) →
         i < last →
-        ahead ≡ inflowOf (inForceAt c (i + 1)) (cellIn state (i + 1)) (sent .onward) (sent .queued) →
-        after ≡ movedOf (inForceAt c i) (cellIn state i) flow (leavingOf (inForceAt c i) (cellIn state i) (ahead .main)) →
+        ahead ≡ entered (inflowOf (inForceAt c (i + 1)) (cellIn state (i + 1)) (sent .most .onward) (sent .queued)) (sent .most .onward)
+        (cellIn state (i + 1) .q + inForceAt c (i + 1) .demand) →
+        after ≡ movedOf (inForceAt c i) (cellIn state i) (flowOf came)
+        (leavingOf (inForceAt c i) (cellIn state i) (ahead .main)) →
         Passing c state last origin (withCell row i after) ahead (left + after .off) (i + 1)
-    unfolding mainWishAt queuedAt sentOf
+    unfolding mainWishAt queuedAt sentOf onwardOf
     turned ahead after h a e =
-        let f : ahead ≡ flowAt c state (i + 1) = rw (a, sending, add-one) in
+        let f : ahead ≡ cameAt c state (i + 1) = rw (a, sending, add-one) in
         let m : ahead .main ≡ mainFlowAt c state (suc i) = rw (f, add-one, main-flow-at c state (suc i) (omega (arith, at .last-one))) in
-        let x : after ≡ nextCell c state i = rw (e, at .flow-is, m) in
+        let x : after ≡ nextCell c state i = rw (e, at .came-is, m) in
         record {
           up-to = omega arith;
           last-one = at .last-one;
           origin-is = at .origin-is;
           long = with-cell-length row i after ∙ at .long;
           cells-are = next-cells after x;
-          flow-is = f;
+          came-is = f;
           left-is = next-left after x;
         }
 
@@ -139,17 +140,18 @@ module _ (c : Conditions) (state : State) (last origin : ℕ) (row : List ℕ) (
         Bounded (c .segments) t state →
         c .segments ≤ length (state .cells) →
         last ≤ i →
-        exit ≡ min (sent .onward) (c .outlet) →
-        after ≡ movedOf (inForceAt c i) (cellIn state i) flow (leavingOf (inForceAt c i) (cellIn state i) exit) →
+        exit ≡ min (sent .most .onward) (c .outlet) →
+        after ≡ movedOf (inForceAt c i) (cellIn state i) (flowOf came)
+        (leavingOf (inForceAt c i) (cellIn state i) exit) →
         (stateIn (withCell row i after) (record { origin = origin; exit = exit }) ≡ stepped c state)
         × (exit + (left + after .off) ≡ leftOf (c .segments) (stepped c state))
-        × (length (withCell row i after) ≡ 384)
-    unfolding stepped mainWishAt sentOf
+        × (length (withCell row i after) ≡ 448)
+    unfolding stepped mainWishAt sentOf onwardOf
     done exit after good bounded long h x e =
         let n : suc i ≡ c .segments = omega (arith, at .up-to, at .last-one) in
         let p : i + 1 ≡ c .segments = omega (arith, n) in
         let w : exit ≡ mainFlowAt c state (c .segments) = rw (x, sending, exit-exact c state, ← n) in
-        let y : after ≡ nextCell c state i = rw (e, at .flow-is, w, n) in (
+        let y : after ≡ nextCell c state i = rw (e, at .came-is, w, n) in (
           rw (next-cells after y, at .origin-is, w, p),
           rw (left-is c state good bounded long, ← p, next-left after y, w, p),
           with-cell-length row i after ∙ at .long,

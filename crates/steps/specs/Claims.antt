@@ -1,6 +1,6 @@
--- Document 01, "The list statement", with document 02, Q-1, the jam clause: the claims on one step, from its conditions and the states before
--- and after; the flows are those that the state after tells, capacity and jam those in force in the step.
-use Prim.Native.Nat.{ℕ, zero, suc, _+_, _≤_, _<_, min}
+-- Document 01, "The list statement", with document 02, Q-1, the jam clause, and Q-3, the remainder: the claims on one step, from its conditions and
+-- the states before and after; the flows are those that the state after tells, capacity, jam and share those in force in the step.
+use Prim.Native.Nat.{ℕ, zero, suc, _+_, _*_, _≤_, _<_, min}
 use mathlib.Core.Path.{_≡_}
 use lib.Dec.{ltb}
 use Rattle.numbers.specs.Choice.{if_then_else_}
@@ -30,5 +30,9 @@ pub record Holds (c : Conditions) (before after : State) : Type 0 where
   pub parts : (i : ℕ) → i < c .segments → cellIn after i .n + cellIn after i .out ≡ cellIn before i .n + cellIn after i .main + cellIn after i .ramp
   pub queues : (i : ℕ) → i < c .segments → cellIn after i .q + cellIn after i .ramp ≡ cellIn before i .q + inForceAt c i .demand
   pub origin : after .origin + enteredAt (c .segments) after zero ≡ before .origin + c .demand
+  -- by the off-ramp leaves its share of what the segment lets out, to the part; what is less than a part is carried to the next step
+  pub off-share : (i : ℕ) → i < c .segments
+      → cellIn after i .off * 1000 + cellIn after i .remainder ≡ cellIn after i .out * inForceAt c i .share + cellIn before i .remainder
+  pub remainder : (i : ℕ) → i < c .segments → cellIn after i .remainder < 1000
   -- nothing is lost
   pub balanced : storedOf (c .segments) after + leftOf (c .segments) after ≡ storedOf (c .segments) before + arrivedOf c

@@ -14,13 +14,13 @@ use Rattle.segment.specs.Place.{onwardOf, queuedOf, rampWishOf, supplyOf, inflo
 
 -- a fresh segment, and what stands past the last one
 abbrev pub noCell : Cell
-noCell = record { n = 0; q = 0; main = 0; ramp = 0; off = 0; out = 0 }
+noCell = record { n = 0; q = 0; main = 0; ramp = 0; off = 0; out = 0; remainder = 0 }
 
 -- a road just laid has all at zero
 abbrev pub freshState : State
 freshState = record { cells = replicate 64 noCell; origin = 0; exit = 0 }
 
--- the cell of segment i in a state: n(i), q(i) and the last step's flows
+-- the cell of segment i in a state: n(i), q(i), the last step's flows and the remainder
 abbrev pub cellIn : State → ℕ → Cell
 cellIn state i = getD (state .cells) i noCell
 

@@ -37,12 +37,12 @@ pub struct Stepped {
     pub left: u32,
 }
 
-// Cells as a row of 384 numbers, six for each of 64 segments: the cell of segment i.
-fn cell_at(cells: &[u32; 384], i: usize) -> Cell
+// Cells as a row of 448 numbers, seven for each of 64 segments: the cell of segment i.
+fn cell_at(cells: &[u32; 448], i: usize) -> Cell
     requires { ⌜ i < 64 ⌝ }
     ensures { λ r. ⌜ r ≡ cellAt (now (cells .entry)) i ⌝ }
 {
-    let at = 6 * i;
+    let at = 7 * i;
     Cell {
         n: cells[at],
         q: cells[at + 1],
@@ -50,27 +50,29 @@ fn cell_at(cells: &[u32; 384], i: usize) -> Cell
         ramp: cells[at + 3],
         off: cells[at + 4],
         out: cells[at + 5],
+        remainder: cells[at + 6],
     }
 }
 
 // Puts the cell of segment i.
-fn put_cell(cells: &mut [u32; 384], i: usize, cell: Cell)
+fn put_cell(cells: &mut [u32; 448], i: usize, cell: Cell)
     requires { ⌜ i < 64 ⌝ }
     ensures { λ _. ⌜ now (cells .exit) ≡ withCell (now (cells .entry)) i cell ⌝ }
 {
-    let at = 6 * i;
+    let at = 7 * i;
     cells[at] = cell.n;
     cells[at + 1] = cell.q;
     cells[at + 2] = cell.main;
     cells[at + 3] = cell.ramp;
     cells[at + 4] = cell.off;
     cells[at + 5] = cell.out;
+    cells[at + 6] = cell.remainder;
 }
 
 // Puts all cells of a state.
-pub fn put_cells(cells: &mut [u32; 384], state: State)
-    requires { ⌜ length (now cells) ≡ 384 ⌝ }
-    ensures { λ _. ⌜ (cellsIn (now (cells .exit)) ≡ state .cells) × (length (now (cells .exit)) ≡ 384) ⌝ }
+pub fn put_cells(cells: &mut [u32; 448], state: State)
+    requires { ⌜ length (now cells) ≡ 448 ⌝ }
+    ensures { λ _. ⌜ (cellsIn (now (cells .exit)) ≡ state .cells) × (length (now (cells .exit)) ≡ 448) ⌝ }
 {
     let mut i: usize = 0;
     while i < 64 {
@@ -81,7 +83,7 @@ pub fn put_cells(cells: &mut [u32; 384], state: State)
 }
 
 // The state of a row of cells and the ends.
-pub fn state_of(cells: &[u32; 384], ends: Ends) -> State
+pub fn state_of(cells: &[u32; 448], ends: Ends) -> State
     ensures { λ r. ⌜ r ≡ stateIn (now (cells .entry)) ends ⌝ }
 {
     let state = fresh();
@@ -99,34 +101,36 @@ pub fn state_of(cells: &[u32; 384], ends: Ends) -> State
     }
 }
 
-// One step under the conditions in a row, in place: one pass over the segments, which carries the flow into the segment at hand and
+// One step under the conditions in a row, in place: one pass over the segments, which carries what entered the segment at hand and
 // puts each cell after it and the next have been read. The last segment, before the exit, comes after the loop.
-pub fn step(row: &[u32; 835], cells: &mut [u32; 384], ends: Ends) -> Stepped
-    requires { ⌜ GoodConditions (conditionsIn (now row)) × HasShortcuts (now row) × (length (now cells) ≡ 384)
+pub fn step(row: &[u32; 835], cells: &mut [u32; 448], ends: Ends) -> Stepped
+    requires { ⌜ GoodConditions (conditionsIn (now row)) × HasShortcuts (now row) × (length (now cells) ≡ 448)
         × Bounded (conditionsIn (now row) .segments) 5760 (stateIn (now cells) ends) ⌝ }
     ensures { λ r. ⌜ (stateIn (now (cells .exit)) (r .ends) ≡ stepped (conditionsIn (now (row .entry))) (stateIn (now (cells .entry)) ends))
         × (r .left ≡ leftOf (conditionsIn (now (row .entry)) .segments) (stepped (conditionsIn (now (row .entry))) (stateIn (now (cells .entry)) ends)))
-        × (length (now (cells .exit)) ≡ 384) ⌝ }
+        × (length (now (cells .exit)) ≡ 448) ⌝ }
 {
     let last = segments_in(row) as usize - 1;
     let queue = ends.origin;
     let wish = queue + demand_in(row);
-    let mut flow = flow_at(row, 0, cell_at(cells, 0), wish, 0 < queue);
-    let origin = wish - flow.main;
+    let mut came = flow_at(row, 0, cell_at(cells, 0), wish, 0 < queue);
+    let origin = wish - came.main;
     let mut left: u32 = 0;
     let mut i: usize = 0;
     while i < last {
         let sent = sent_at(row, i, cell_at(cells, i));
-        let ahead = flow_at(row, i + 1, cell_at(cells, i + 1), sent.onward, sent.queued);
-        let after = moved_at(row, i, cell_at(cells, i), flow, sent, ahead.main);
+        let onward = sent.most.onward;
+        let ahead = flow_at(row, i + 1, cell_at(cells, i + 1), onward, sent.queued);
+        let after = moved_at(row, i, cell_at(cells, i), came, sent, ahead.main, ahead.all);
         left += after.off;
         put_cell(cells, i, after);
-        flow = ahead;
+        came = ahead;
         i += 1;
     }
     let sent = sent_at(row, i, cell_at(cells, i));
-    let exit = least(sent.onward, outlet_in(row));
-    let after = moved_at(row, i, cell_at(cells, i), flow, sent, exit);
+    let onward = sent.most.onward;
+    let exit = least(onward, outlet_in(row));
+    let after = moved_at(row, i, cell_at(cells, i), came, sent, exit, onward <= exit);
     left += after.off;
     put_cell(cells, i, after);
     Stepped {
@@ -176,6 +180,7 @@ pub fn fresh() -> State
         ramp: 0,
         off: 0,
         out: 0,
+        remainder: 0,
     };
     let cells = [none; 64];
     State {

@@ -21,7 +21,9 @@ fn say_cell(number: u64, cell: Cell, level: Level) {
     say_number(b" r ", cell.ramp as u64);
     say_number(b" off ", cell.off as u64);
     say_number(b" y ", cell.out as u64);
-    say(&[b' ', letters::letter_byte(level), b'\n']);
+    say(&[b' ', letters::letter_byte(level)]);
+    say_number(b" remainder ", cell.remainder as u64);
+    say(b"\n");
 }
 
 // A line a segment, with the letter by the open lanes.

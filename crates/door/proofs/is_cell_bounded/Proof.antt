@@ -1,4 +1,4 @@
--- Two tests.
+-- Three tests.
 use mathlib.Core.Path.{refl}
 use native.Mathlib.Omega.{arith}
 use Rattle.door.specs.Sound.{cellBounded}

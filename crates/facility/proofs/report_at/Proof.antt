@@ -1,6 +1,7 @@
 -- The cell of the segment, and its letter.
 use mathlib.Core.Path.{ap, _∙_}
 use native.Mathlib.Omega.{arith}
+use Rattle.steps.specs.Step.{cellIn}
 use Rattle.facility.specs.Calls.{reported}
 use Rattle.facility.proofs.Letters.{letter-is}
 use Rattle.facility.proofs.report_at.Statement.{statement}
@@ -34,7 +35,7 @@ returns c =
     let seg = lanes .before .before .before .before in
     let start = seg .before .before .before .before .before in
     let level = rw (seg .segment-at .ensures, lanes .lanes-at .ensures) at (c .level-of .ensures) in
-    ap (reported _) (level ∙ letter-is _ _ (start .pre .1))
+    ap (reported (cellIn (start .args .t1 .state) (start .args .i))) (level ∙ letter-is _ _ (start .pre .1))
 
 pub report-at-spec : {M : Type 1} → statement M
 report-at-spec =

@@ -14,7 +14,7 @@ use Rattle.running.proofs.make_steps.Tie as tie
 abbrev Inv-loop : tie.InvT-loop
 Inv-loop f k road period row arrives cells₀ ends₀ arrived₀ left₀ partsteps₀ i₀ cells ends arrived left partsteps i =
     Turn f k i (stateIn cells ends) arrived left partsteps × (arrives ≡ arrivedOf (conditionsOn f)) × (conditionsIn row ≡ conditionsOn f)
-    × HasShortcuts row × (length cells ≡ 384)
+    × HasShortcuts row × (length cells ≡ 448)
 
 abbrev μ-loop : tie.MeasureT-loop
 μ-loop f k road period row arrives cells₀ ends₀ arrived₀ left₀ partsteps₀ i₀ cells ends arrived left partsteps i = k - i

@@ -1,10 +1,9 @@
--- What is in force there, D, Y0 by it, what goes on of that, and the test.
+-- What is in force there, D, what leaves where Y0 do by it, and the test.
 use native.Mathlib.Omega.{arith}
 use mathlib.Core.Path.{_≡_}
 use Rattle.rules.specs.Rules.{wishToLeave}
 use Rattle.rules.proofs.Formulas.{wish-most-capacity}
-use Rattle.rules.proofs.Splits.{most-leaving-most}
-use Rattle.segment.specs.Place.{wishOf, mostOf, onwardOf, queuedOf, sentOf}
+use Rattle.segment.specs.Place.{wishOf, mostOf, queuedOf, sentOf}
 use Rattle.segment.proofs.Moving.{good-here, short-here, fits-split}
 use Rattle.segment.proofs.sent_at.Statement.{statement}
 use Rattle.segment.proofs.sent_at.Tie as tie
@@ -39,38 +38,13 @@ most-leaving-requires c κs =
     let most = wish-most-capacity (c .before .before .before .before .args .cell .n) (here .capacity) (here .speed) (here .length) in
     (fits-split _ _ _ (c .before .split-of .ensures) g (p .3), g .offramp, omega (arith, wish-is c, most, g .capacity))
 
-through-of-requires : tie.Need-through-of-requires
-through-of-requires c κs =
-    let p = c .before .before .before .before .before .pre in
-    let here = c .before .before .before .before .in-force-at .result in
-    let g = good-here _ _ _ (p .0) (p .2) (c .before .before .before .before .in-force-at .ensures) in
-    let leaves = most-leaving-most (c .before .before .split-of .result) (here .offramp) (c .before .wish-to-leave .result) in
-    let most = wish-most-capacity (c .before .before .before .before .before .args .cell .n) (here .capacity) (here .speed) (here .length) in (
-      fits-split _ _ _ (c .before .before .split-of .ensures) g (p .3),
-      omega (arith, c .most-leaving .ensures, leaves, wish-is (c .before), most, g .capacity),
-    )
-
 returns : tie.Need-returns
-unfolding sentOf onwardOf queuedOf mostOf wishOf
+unfolding sentOf queuedOf mostOf wishOf
 returns c =
-    let most = c .before .before .before in
+    let most = c .before .before in
     let split = most .before .before in
-    rw (
-      ← split .before .before .in-force-at .ensures,
-      c .before .before .through-of .ensures,
-      most .most-leaving .ensures,
-      wish-is (most .before),
-      split .split-of .ensures,
-    )
+    rw (← split .before .before .in-force-at .ensures, most .most-leaving .ensures, wish-is (most .before), split .split-of .ensures)
 
 pub sent-at-spec : {M : Type 1} → statement M
 sent-at-spec =
-    tie.close
-    (tie.spec
-    in-force-at-requires
-    shortcuts-at-requires
-    split-of-requires
-    wish-to-leave-requires
-    most-leaving-requires
-    through-of-requires
-    returns)
+    tie.close (tie.spec in-force-at-requires shortcuts-at-requires split-of-requires wish-to-leave-requires most-leaving-requires returns)

@@ -1,4 +1,4 @@
--- The share.
+-- The share, and the remainder of the step's start.
 use mathlib.Core.Path.{refl}
 use Rattle.segment.specs.Place.{splitOf}
 use Rattle.segment.proofs.split_of.Statement.{statement}

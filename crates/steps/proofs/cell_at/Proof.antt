@@ -1,4 +1,4 @@
--- The six numbers of the segment.
+-- The seven numbers of the segment.
 use Prim.Native.Nat.{_*_}
 use native.Mathlib.Omega.{arith}
 use native.Mathlib.Nat.{add-zero}
@@ -60,9 +60,18 @@ mul-t29 c = omega (arith, c .before .before .before .before .before .pre)
 element-copy-out-t32 : tie.Need-element-copy-out-t32
 element-copy-out-t32 c = omega (arith, c .before .before .before .before .before .pre)
 
+add-t33 : tie.Need-add-t33
+add-t33 c = omega (arith, c .before .before .before .before .before .before .pre)
+
+mul-t34 : tie.Need-mul-t34
+mul-t34 c = omega (arith, c .before .before .before .before .before .before .pre)
+
+element-copy-out-t37 : tie.Need-element-copy-out-t37
+element-copy-out-t37 c = omega (arith, c .before .before .before .before .before .before .pre)
+
 returns : tie.Need-returns
 unfolding cellAt
-returns c = rw (add-zero (6 * c .before .before .before .before .before .before .args .i))
+returns c = rw (add-zero (7 * c .before .before .before .before .before .before .before .args .i))
 
 pub cell-at-spec : {M : Type 1} → statement M
 cell-at-spec =
@@ -86,4 +95,7 @@ cell-at-spec =
     add-t28
     mul-t29
     element-copy-out-t32
+    add-t33
+    mul-t34
+    element-copy-out-t37
     returns)

@@ -1,4 +1,4 @@
--- The six numbers put one after the other.
+-- The seven numbers put one after the other.
 use Prim.Native.Nat.{_*_}
 use native.Mathlib.Omega.{arith}
 use native.Mathlib.Nat.{add-zero}
@@ -61,9 +61,18 @@ mul-cells-6 c = omega (arith, c .pre)
 element-write-cells-6 : tie.Need-element-write-cells-6
 element-write-cells-6 c = omega (arith, c .pre)
 
+add-cells-6 : tie.Need-add-cells-6
+add-cells-6 c = omega (arith, c .pre)
+
+mul-cells-7 : tie.Need-mul-cells-7
+mul-cells-7 c = omega (arith, c .pre)
+
+element-write-cells-7 : tie.Need-element-write-cells-7
+element-write-cells-7 c = omega (arith, c .pre)
+
 returns : tie.Need-returns
 unfolding withCell puts
-returns c = rw (add-zero (6 * c .args .i))
+returns c = rw (add-zero (7 * c .args .i))
 
 pub put-cell-spec : {M : Type 1} → statement M
 put-cell-spec =
@@ -87,4 +96,7 @@ put-cell-spec =
     add-cells-5
     mul-cells-6
     element-write-cells-6
+    add-cells-6
+    mul-cells-7
+    element-write-cells-7
     returns)

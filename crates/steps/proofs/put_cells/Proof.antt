@@ -13,7 +13,7 @@ use Rattle.steps.proofs.put_cells.Statement.{statement}
 use Rattle.steps.proofs.put_cells.Tie as tie
 
 abbrev Inv-loop : tie.InvT-loop
-Inv-loop cells₀ state i₀ cells i = (i ≤ 64) × (length cells ≡ 384) × (cellsIn cells ≡ replaced (λ j. getD (state .cells) j noCell) i (cellsIn cells₀))
+Inv-loop cells₀ state i₀ cells i = (i ≤ 64) × (length cells ≡ 448) × (cellsIn cells ≡ replaced (λ j. getD (state .cells) j noCell) i (cellsIn cells₀))
 
 abbrev μ-loop : tie.MeasureT-loop
 μ-loop cells₀ state i₀ cells i = 64 - i

@@ -7,11 +7,11 @@ use Rattle.conditions.specs.Conditions.{Conditions, inForceAt}
 use Rattle.conditions.specs.Row.{conditionsIn}
 use Rattle.conditions.proofs.Values.{values-length}
 use Rattle.steps.specs.declared.State.{State}
+use Rattle.segment.specs.Entered.{entered, flowOf}
 use Rattle.segment.specs.Place.{sentOf, inflowOf, leavingOf, movedOf}
 use Rattle.steps.specs.Step.{cellIn}
 use Rattle.steps.specs.CellRow.{cellAt, stateIn}
 use Rattle.steps.proofs.CellRow.{cell-in}
-use Rattle.segment.proofs.Laws.{main-wished}
 use Rattle.segment.proofs.Moving.{sent-small, moved-off}
 use Rattle.steps.proofs.Passing.{Passing, first-fits, started, still, left-small, movable-at, turned, done}
 use Rattle.steps.proofs.step.Statement.{statement}
@@ -19,11 +19,11 @@ use Rattle.steps.proofs.step.Tie as tie
 
 -- whatever the exit's flow in the step before was, since no rule asks for it
 abbrev Inv-loop : tie.InvT-loop
-Inv-loop row cells₀ last queue wish flow₀ origin left₀ i₀ cells flow left i =
-    (exit : ℕ) → Passing (conditionsIn row) (stateIn cells₀ (record { origin = queue; exit = exit })) last origin cells flow left i
+Inv-loop row cells₀ last queue wish came₀ origin left₀ i₀ cells came left i =
+    (exit : ℕ) → Passing (conditionsIn row) (stateIn cells₀ (record { origin = queue; exit = exit })) last origin cells came left i
 
 abbrev μ-loop : tie.MeasureT-loop
-μ-loop row cells₀ last queue wish flow₀ origin left₀ i₀ cells flow left i = last - i
+μ-loop row cells₀ last queue wish came₀ origin left₀ i₀ cells came left i = last - i
 
 -- the conditions and the state at the function's start
 abbrev conditions : tie.Start Inv-loop μ-loop → Conditions
@@ -41,7 +41,7 @@ passing : (at : tie.At-loop Inv-loop μ-loop)
     → let demand = at .before .before .before .before .before in
     Passing (conditions (entry at)) (state (entry at)) (demand .before .segments-in .result - 1)
     (entry at .args .ends .origin + demand .demand-in .result - at .before .before .flow-at .result .main)
-    (at .loop .cells) (at .loop .flow) (at .loop .left) (at .loop .i)
+    (at .loop .cells) (at .loop .came) (at .loop .left) (at .loop .i)
 passing at = at .loop .inv (entry at .args .ends .exit)
 
 below : (at : tie.At-loop Inv-loop μ-loop) → (at .loop .i < conditions (entry at) .segments) × (at .loop .i < 64)
@@ -93,8 +93,9 @@ cell-6 c =
 entering : (c : tie.After-flow-at Inv-loop μ-loop)
     → let s = c .before .before .before .before .before in
     let origin = s .args .ends .origin in
-    c .flow-at .result
-    ≡ inflowOf (inForceAt (conditions s) 0) (cellIn (state s) 0) (origin + c .before .before .before .demand-in .result) (ltb 0 origin)
+    let here = inForceAt (conditions s) 0 in
+    let wish = origin + c .before .before .before .demand-in .result in
+    c .flow-at .result ≡ entered (inflowOf here (cellIn (state s) 0) wish (ltb 0 origin)) wish (cellIn (state s) 0 .q + here .demand)
 entering c = rw (first-cell (c .before)) at (c .flow-at .ensures)
 
 sending : (c : tie.After-sent-at Inv-loop μ-loop)
@@ -105,16 +106,17 @@ sending c = rw (cell-2 (c .before)) at (c .sent-at .ensures)
 flowing : (c : tie.After-flow-at2 Inv-loop μ-loop)
     → let sent = c .before .before .before in
     let at = sent .before .before .before .before in
-    c .flow-at2 .result
-    ≡ inflowOf (inForceAt (conditions (entry at)) (at .loop .i + 1)) (cellIn (state (entry at)) (at .loop .i + 1))
-    (sent .sent-at .result .onward) (sent .sent-at .result .queued)
+    let here = inForceAt (conditions (entry at)) (at .loop .i + 1) in
+    let cell = cellIn (state (entry at)) (at .loop .i + 1) in
+    let onward = sent .sent-at .result .most .onward in
+    c .flow-at2 .result ≡ entered (inflowOf here cell onward (sent .sent-at .result .queued)) onward (cell .q + here .demand)
 flowing c = rw (cell-3 (c .before)) at (c .flow-at2 .ensures)
 
 moving : (c : tie.After-moved-at Inv-loop μ-loop)
     → let at = c .before .before .before .before .before .before .before .before .before .before in
     let here = inForceAt (conditions (entry at)) (at .loop .i) in
     let cell = cellIn (state (entry at)) (at .loop .i) in
-    c .moved-at .result ≡ movedOf here cell (at .loop .flow) (leavingOf here cell (c .before .before .before .flow-at2 .result .main))
+    c .moved-at .result ≡ movedOf here cell (flowOf (at .loop .came)) (leavingOf here cell (c .before .before .before .flow-at2 .result .main))
 moving c = rw (cell-4 (c .before)) at (c .moved-at .ensures)
 
 sending-2 : (c : tie.After-sent-at2 Inv-loop μ-loop)
@@ -126,7 +128,7 @@ moving-2 : (c : tie.After-moved-at2 Inv-loop μ-loop)
     → let at = c .before .before .before .before .before .before .before .before .before in
     let here = inForceAt (conditions (entry at)) (at .loop .i) in
     let cell = cellIn (state (entry at)) (at .loop .i) in
-    c .moved-at2 .result ≡ movedOf here cell (at .loop .flow) (leavingOf here cell (c .before .before .before .least .result))
+    c .moved-at2 .result ≡ movedOf here cell (flowOf (at .loop .came)) (leavingOf here cell (c .before .before .before .least .result))
 moving-2 c = rw (cell-6 (c .before)) at (c .moved-at2 .ensures)
 
 left-off : (at : tie.At-loop Inv-loop μ-loop) → at .loop .left ≤ 640000
@@ -204,11 +206,14 @@ moved-at-requires : tie.Need-moved-at-requires Inv-loop μ-loop
 moved-at-requires c κs =
     let at = c .before .before .before .before .before .before .before .before .before in
     let p = entry at .pre in
-    let sent = c .before .before .before .before .before in
-    let fits : c .before .before .flow-at2 .result .main ≤ sent .sent-at .result .onward = rw (flowing (c .before .before)) (main-wished _ _ _ _) in (
+    let m = movable-at _ _ (p .0) (p .3) _ _ (below at .0) (passing at .came-is) in
+    let flow = flowing (c .before .before) in
+    rw (cell-4 c) (
       below at .1,
       below at .0,
-      rw (cell-4 c) (movable-at _ _ (p .0) (p .3) _ _ _ _ (below at .0) (passing at .flow-is) (sending sent) fits),
+      m,
+      sending (c .before .before .before .before .before),
+      rw flow refl,
     )
 
 add-left : tie.Need-add-left Inv-loop μ-loop
@@ -260,12 +265,8 @@ moved-at-requires-2 : tie.Need-moved-at-requires-2 Inv-loop μ-loop
 moved-at-requires-2 c κs =
     let at = c .before .before .before .before .before .before .before .before in
     let p = entry at .pre in
-    let fits = c .before .before .least .ensures in (
-      below at .1,
-      below at .0,
-      rw (cell-6 c)
-          (movable-at _ _ (p .0) (p .3) _ _ _ _ (below at .0) (passing at .flow-is) (sending-2 (c .before .before .before .before)) (omega (arith, fits))),
-    )
+    let m = movable-at _ _ (p .0) (p .3) _ _ (below at .0) (passing at .came-is) in
+    rw (cell-6 c) (below at .1, below at .0, m, sending-2 (c .before .before .before .before), refl)
 
 add-left-2 : tie.Need-add-left-2 Inv-loop μ-loop
 add-left-2 c =
@@ -276,8 +277,8 @@ add-left-2 c =
 put-cell-requires-2 : tie.Need-put-cell-requires-2 Inv-loop μ-loop
 put-cell-requires-2 c κs = below (c .before .before .before .before .before .before .before .before .before .before .before) .1
 
-add-t17 : tie.Need-add-t17 Inv-loop μ-loop
-add-t17 c =
+add-t19 : tie.Need-add-t19 Inv-loop μ-loop
+add-t19 c =
     let at = c .before .before .before .before .before .before .before .before .before .before .before .before in
     let p = entry at .pre in
     let moved = c .before .before .before in
@@ -336,5 +337,5 @@ step-spec =
     moved-at-requires-2
     add-left-2
     put-cell-requires-2
-    add-t17
+    add-t19
     returns)
