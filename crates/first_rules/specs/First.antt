@@ -1,5 +1,5 @@
--- Document 02, Q-2, "the first rules": the same step rules, Q-3's split among them, under the conditions of a sheet without open lanes. Lanes N and capacity C come from the
--- road alone, ramp demands and meter rates from a sheet of the first layout.
+-- Document 02, Q-2, "the first rules": the same step rules, Q-3's split among them, under the conditions of a sheet without open lanes. Lanes N and
+-- capacity C come from the road alone, ramp demands and meter rates from a sheet of the first layout.
 use Prim.Native.Nat.{ℕ, _+_, _*_}
 use mathlib.Core.List.{List}
 use lib.ListN.{getD}

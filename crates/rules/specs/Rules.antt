@@ -5,7 +5,6 @@ use mathlib.Core.Bool.{Bool}
 use lib.Dec.{leb}
 use Rattle.numbers.specs.Choice.{if_then_else_}
 use Rattle.rules.specs.declared.Split.{Split}
-use Rattle.rules.specs.declared.Outflow.{Outflow}
 use Rattle.rules.specs.declared.Flow.{Flow}
 
 -- the largest y up to b that passes the test, by search from the top
@@ -32,10 +31,6 @@ remainderAfter s y = (y * s .share + s .remainder) % 1000
 -- through(y) = y − off(y)
 unfoldable pub through : Split → (leaving : ℕ) → ℕ
 through s y = y - off s y
-
--- what leaves where y do: y, through(y) of them by the mainline, and the remainder after
-abbrev pub outflow : Split → (leaving : ℕ) → Outflow
-outflow s y = record { out = y; onward = through s y; remainder = remainderAfter s y }
 
 -- Y0: the largest y up to D with off(y) at most F
 unfoldable pub mostLeaving : Split → (offramp wish : ℕ) → ℕ

@@ -5,7 +5,8 @@ use arithmetic::wide;
 ghost use mathlib.Core.Path.{_≡_};
 ghost use Prim.Native.Nat.{ℕ, _*_, _≤_, _<_};
 ghost use Rattle.conditions.specs.Shortcuts.{fullFrom};
-ghost use Rattle.rules.specs.Rules.{wishToLeave, off, through, outflow, mostLeaving, rampWish, supply, rampFlow, mainFlow, merge, leaving};
+ghost use Rattle.rules.specs.Rules.{wishToLeave, off, through, mostLeaving, rampWish, supply, rampFlow, mainFlow, merge, leaving};
+ghost use Rattle.rules.specs.Outflow.{outflow};
 ghost use Rattle.rules.specs.Good.{GoodSplit};
 
 // What the split of leaving parts goes by: the share s, and the remainder at the step's start.

@@ -12,10 +12,12 @@ use Rattle.rules.specs.declared.Split.{Split}
 use Rattle.rules.specs.declared.Outflow.{Outflow}
 use Rattle.conditions.specs.Conditions.{Conditions, inForceAt}
 use Rattle.conditions.specs.Shortcuts.{fullFrom, shortcutsOf}
-use Rattle.rules.specs.Rules.{through, outflow, leaving}
+use Rattle.rules.specs.Rules.{through, leaving}
+use Rattle.rules.specs.Outflow.{outflow}
 use Rattle.rules.specs.Good.{GoodSplit}
 use Rattle.rules.proofs.Splits.{leaving-all, through-most}
-use Rattle.segment.specs.Place.{splitOf, mostOf, sentOf, leavingOf, movedOf}
+use Rattle.segment.specs.Place.{splitOf, mostOf, leavingOf, movedOf}
+use Rattle.segment.specs.Entered.{sentOf}
 use Rattle.conditions.specs.Good.{GoodPlace, GoodConditions}
 use Rattle.segment.specs.Bounded.{BoundedCell}
 use Rattle.segment.proofs.Laws.{good-split, most-capacity, most-parts, off-most-at}

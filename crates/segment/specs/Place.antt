@@ -6,8 +6,7 @@ use Rattle.conditions.specs.declared.InForce.{InForce}
 use Rattle.rules.specs.declared.Split.{Split}
 use Rattle.segment.specs.declared.Cell.{Cell}
 use Rattle.rules.specs.declared.Flow.{Flow}
-use Rattle.segment.specs.declared.Sent.{Sent}
-use Rattle.rules.specs.Rules.{wishToLeave, off, remainderAfter, through, outflow, mostLeaving, rampWish, entrance, supply, merge, leaving}
+use Rattle.rules.specs.Rules.{wishToLeave, off, remainderAfter, through, mostLeaving, rampWish, entrance, supply, merge, leaving}
 
 module _ (here : InForce) (cell : Cell) where
   -- what off(y) and through(y) go by: the share s, and the remainder at the step's start
@@ -29,10 +28,6 @@ module _ (here : InForce) (cell : Cell) where
   -- n is above Q: a queue stands before the node ahead
   unfoldable pub queuedOf : Bool
   queuedOf = ltb (here .critical) (cell .n)
-
-  -- what the segment sends on: what leaves where Y0 do, and whether it is queued
-  unfoldable pub sentOf : Sent
-  sentOf = record { most = outflow splitOf mostOf; queued = queuedOf }
 
   -- W
   unfoldable pub rampWishOf : ℕ

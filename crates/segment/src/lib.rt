@@ -17,11 +17,12 @@ ghost use Rattle.conditions.specs.Conditions.{inForceAt};
 ghost use Rattle.conditions.specs.Good.{GoodConditions};
 ghost use Rattle.conditions.specs.Row.{conditionsIn, HasShortcuts};
 ghost use Rattle.rules.specs.Good.{GoodSplit};
-ghost use Rattle.rules.specs.Rules.{outflow, entrance, merge};
+ghost use Rattle.rules.specs.Rules.{entrance, merge};
+ghost use Rattle.rules.specs.Outflow.{outflow};
 ghost use Rattle.conditions.specs.declared.InForce.{InForce};
-ghost use Rattle.segment.specs.Place.{splitOf, sentOf, supplyOf, inflowOf, leavingOf, movedOf};
+ghost use Rattle.segment.specs.Place.{splitOf, supplyOf, inflowOf, leavingOf, movedOf};
 ghost use Rattle.segment.specs.Bounded.{BoundedCell};
-ghost use Rattle.segment.specs.Entered.{entered, flowOf};
+ghost use Rattle.segment.specs.Entered.{sentOf, entered, flowOf};
 ghost use Rattle.segment.specs.Movable.{Movable};
 
 // A segment's state: n parts in it and q in its on-ramp's queue; of the last step the mainline flow f and the ramp flow r that

@@ -12,7 +12,7 @@ use Rattle.segment.specs.declared.Sent.{Sent}
 use Rattle.steps.specs.declared.State.{State}
 use Rattle.conditions.specs.Conditions.{Conditions, inForceAt}
 use Rattle.conditions.proofs.Values.{values-at}
-use Rattle.segment.specs.Place.{onwardOf, sentOf, inflowOf, leavingOf, movedOf}
+use Rattle.segment.specs.Place.{onwardOf, inflowOf, leavingOf, movedOf}
 use Rattle.steps.specs.Step.{noCell, cellIn, mainWishAt, queuedAt, flowAt, mainFlowAt, nextCell, replaced, stepped, sumTo, leftOf}
 use Rattle.steps.specs.CellRow.{cellAt, cellsIn, stateIn, withCell}
 use Rattle.steps.proofs.CellRow.{with-cell-length, cells-put}
@@ -24,7 +24,7 @@ use Rattle.steps.proofs.Balance.{left-is}
 use Rattle.steps.proofs.Bounds.{off-most-after}
 use Rattle.steps.proofs.Sums.{replaced-beyond, sum-more, sum-most}
 use Rattle.segment.specs.Movable.{Movable}
-use Rattle.segment.specs.Entered.{entered, flowOf}
+use Rattle.segment.specs.Entered.{sentOf, entered, flowOf}
 
 -- what enters segment i, and the ramp's queue that is left
 abbrev pub cameAt : Conditions → State → ℕ → Entered
@@ -116,8 +116,7 @@ module _ (c : Conditions) (state : State) (last origin : ℕ) (row : List ℕ) (
         i < last →
         ahead ≡ entered (inflowOf (inForceAt c (i + 1)) (cellIn state (i + 1)) (sent .most .onward) (sent .queued)) (sent .most .onward)
         (cellIn state (i + 1) .q + inForceAt c (i + 1) .demand) →
-        after ≡ movedOf (inForceAt c i) (cellIn state i) (flowOf came)
-        (leavingOf (inForceAt c i) (cellIn state i) (ahead .main)) →
+        after ≡ movedOf (inForceAt c i) (cellIn state i) (flowOf came) (leavingOf (inForceAt c i) (cellIn state i) (ahead .main)) →
         Passing c state last origin (withCell row i after) ahead (left + after .off) (i + 1)
     unfolding mainWishAt queuedAt sentOf onwardOf
     turned ahead after h a e =
@@ -141,8 +140,7 @@ module _ (c : Conditions) (state : State) (last origin : ℕ) (row : List ℕ) (
         c .segments ≤ length (state .cells) →
         last ≤ i →
         exit ≡ min (sent .most .onward) (c .outlet) →
-        after ≡ movedOf (inForceAt c i) (cellIn state i) (flowOf came)
-        (leavingOf (inForceAt c i) (cellIn state i) exit) →
+        after ≡ movedOf (inForceAt c i) (cellIn state i) (flowOf came) (leavingOf (inForceAt c i) (cellIn state i) exit) →
         (stateIn (withCell row i after) (record { origin = origin; exit = exit }) ≡ stepped c state)
         × (exit + (left + after .off) ≡ leftOf (c .segments) (stepped c state))
         × (length (withCell row i after) ≡ 448)

@@ -2,7 +2,7 @@
 use Prim.Native.Nat.{_≤_}
 use mathlib.Core.Path.{sym, ap, _∙_}
 use native.Mathlib.Omega.{arith}
-use Rattle.rules.specs.Rules.{outflow}
+use Rattle.rules.specs.Outflow.{outflow}
 use Rattle.rules.proofs.Splits.{held-back, leaving-without-share, off-without-share, share-below, through-most}
 use Rattle.rules.proofs.held_back.Statement.{statement}
 use Rattle.rules.proofs.held_back.Tie as tie

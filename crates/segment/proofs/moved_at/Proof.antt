@@ -4,7 +4,7 @@ use borrow.Author.Tests.{leb-true, leb-false}
 use Rattle.conditions.specs.Conditions.{inForceAt}
 use Rattle.conditions.specs.declared.InForce.{InForce}
 use Rattle.conditions.specs.Row.{conditionsIn}
-use Rattle.rules.specs.Rules.{outflow}
+use Rattle.rules.specs.Outflow.{outflow}
 use Rattle.segment.specs.Place.{splitOf, leavingOf}
 use Rattle.segment.proofs.Moving.{all-leave, fewer-are, fewer-leave, fits-split, goes-on-most, most-is, most-there, sent-small}
 use Rattle.segment.proofs.Laws.{good-split, let-out-parts}

@@ -3,7 +3,8 @@ use native.Mathlib.Omega.{arith}
 use mathlib.Core.Path.{_≡_}
 use Rattle.rules.specs.Rules.{wishToLeave}
 use Rattle.rules.proofs.Formulas.{wish-most-capacity}
-use Rattle.segment.specs.Place.{wishOf, mostOf, queuedOf, sentOf}
+use Rattle.segment.specs.Place.{wishOf, mostOf, queuedOf}
+use Rattle.segment.specs.Entered.{sentOf}
 use Rattle.segment.proofs.Moving.{good-here, short-here, fits-split}
 use Rattle.segment.proofs.sent_at.Statement.{statement}
 use Rattle.segment.proofs.sent_at.Tie as tie

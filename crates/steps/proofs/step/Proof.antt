@@ -7,8 +7,8 @@ use Rattle.conditions.specs.Conditions.{Conditions, inForceAt}
 use Rattle.conditions.specs.Row.{conditionsIn}
 use Rattle.conditions.proofs.Values.{values-length}
 use Rattle.steps.specs.declared.State.{State}
-use Rattle.segment.specs.Entered.{entered, flowOf}
-use Rattle.segment.specs.Place.{sentOf, inflowOf, leavingOf, movedOf}
+use Rattle.segment.specs.Entered.{sentOf, entered, flowOf}
+use Rattle.segment.specs.Place.{inflowOf, leavingOf, movedOf}
 use Rattle.steps.specs.Step.{cellIn}
 use Rattle.steps.specs.CellRow.{cellAt, stateIn}
 use Rattle.steps.proofs.CellRow.{cell-in}
