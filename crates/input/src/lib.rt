@@ -1,33 +1,57 @@
 // Reading a file, whole or line by line. Only a read that gives no bytes is the end, and a file whose end was seen is not read again.
+#![tactic(auto)]
+
 ghost use Rattle.std.specs.Prelude.{◌≡◌, ◌≤◌, length};
 
+use std::io::Read;
+
 // How many bytes were read, and whether a read failed.
-#[derive(Drop)]
+#[derive(Clone, Copy)]
 pub struct Reading {
     pub length: usize,
     pub failed: bool,
 }
 
 // Reads until the file ends, a read fails or the buffer is full.
-pub fn read_to_end(fd: i32, buffer: &mut [u8]) -> Reading
+pub fn read_to_end<R: Read>(file: &mut R, buffer: &mut [u8]) -> Reading
     ensures { result.length ≤ length buffer.new }
 {
     let mut n: usize = 0;
     while n < buffer.len() {
-        let got = libc::read(fd, &mut buffer[n..]);
-        let more = io::count(got, &buffer[n..]);
-        if more == 0 {
-            return Reading {
-                length: n,
-                failed: got < 0,
-            };
+        match file.read(&mut buffer[n..]) {
+            Ok(0) => {
+                return Reading {
+                    length: n,
+                    failed: false,
+                };
+            }
+            Ok(more) => n += more,
+            Err(_) => {
+                return Reading {
+                    length: n,
+                    failed: true,
+                };
+            }
         }
-        n += more;
     }
     Reading {
         length: n,
         failed: false,
     }
+}
+
+// Room for a chunk of a file.
+pub fn buffer() -> [u8; 4096]
+    ensures { 4096 ≡ length result }
+{
+    [0; 4096]
+}
+
+// Room for the bytes of every study.
+pub fn large_buffer() -> [u8; 65536]
+    ensures { 65536 ≡ length result }
+{
+    [0; 65536]
 }
 
 // Room for a line of text: every study's bytes in hexadecimal fit it, and its numbers in decimal with a space between them.
@@ -39,7 +63,7 @@ pub fn line_room() -> [u8; 98304]
 
 // What of a file was read: the next byte of a chunk and the count of the chunk's bytes, whether the end was seen, whether a read
 // failed, and whether the last line ended in a carriage return.
-#[derive(Drop)]
+#[derive(Clone, Copy)]
 pub struct Source {
     at: usize,
     count: usize,
@@ -65,7 +89,7 @@ pub fn is_at_end(source: Source) -> bool {
 }
 
 // What a read of a line gave: the whole line, the start of one that is longer than the buffer, the end of the file, or a failed read.
-#[derive(Drop)]
+#[derive(Clone, Copy)]
 pub enum Kind {
     Whole,
     Long,
@@ -74,7 +98,7 @@ pub enum Kind {
 }
 
 // A line without its end, by its length at the start of the buffer, and what is left to read.
-#[derive(Drop)]
+#[derive(Clone, Copy)]
 pub struct Line {
     pub kind: Kind,
     pub length: usize,
@@ -82,14 +106,16 @@ pub struct Line {
 }
 
 // Reads the next chunk.
-fn refill(fd: i32, source: Source, chunk: &mut [u8]) -> Source {
-    let got = libc::read(fd, chunk);
-    let count = io::count(got, chunk);
+fn refill<R: Read>(file: &mut R, source: Source, chunk: &mut [u8]) -> Source {
+    let (count, failed) = match file.read(chunk) {
+        Ok(count) => (count, false),
+        Err(_) => (0, true),
+    };
     Source {
         at: 0,
         count,
         ended: count == 0,
-        failed: got < 0,
+        failed,
         returned: source.returned,
     }
 }
@@ -138,20 +164,18 @@ fn line_of(source: Source, is_long: bool, length: usize) -> Line
 }
 
 // Takes the next line, which a line feed, a carriage return or both end. Of a line that is longer than the buffer the rest is passed over.
-pub fn next_line(fd: i32, source: Source, chunk: &mut [u8], line: &mut [u8]) -> Line
+pub fn next_line<R: Read>(file: &mut R, source: Source, chunk: &mut [u8], line: &mut [u8]) -> Line
     ensures { result.length ≤ length line.new }
 {
     let mut s = source;
     let mut n: usize = 0;
     let mut is_long = false;
-    let mut turns = u64::MAX;
-    while turns > 0 {
-        turns -= 1;
+    for _ in 0..u64::MAX {
         if s.count <= s.at {
             if s.ended {
                 return line_of(s, is_long, n);
             }
-            s = refill(fd, s, chunk);
+            s = refill(file, s, chunk);
         } else {
             let b = byte_at(chunk, s.at);
             let is_second = s.returned & (b == 10);
