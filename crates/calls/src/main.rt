@@ -9,7 +9,7 @@ use numbers::Written;
 use records::{Record, say, say_number};
 use text::Numeral;
 
-#[derive(Drop)]
+#[derive(Clone, Copy)]
 enum Call {
     Lay,
     Take,

@@ -11,7 +11,7 @@ use parts::{Entry, RoadGlobals, Segment};
 
 // What is in force at a segment: length L, speed V, the open lanes, the capacity with these, the same lowered behind a queue, the jam J, the
 // critical parts Q, the limit of the ramp (the lesser of R and the meter rate), off-ramp share s, off-ramp capacity F, and ramp demand.
-#[derive(Drop)]
+#[derive(Clone, Copy)]
 pub struct InForce {
     pub length: u32,
     pub speed: u32,
@@ -28,7 +28,7 @@ pub struct InForce {
 
 // Three numbers that spare a step some work: the reach 22 × V, the number of parts below which P is E, and the one from which D is the
 // lesser of n and C.
-#[derive(Drop)]
+#[derive(Clone, Copy)]
 pub struct Shortcuts {
     pub reach: u32,
     pub easy: u32,

@@ -11,21 +11,21 @@ ghost use Rattle.convert.specs.Walked.{walked_of, Filled};
 use sheets::{Layout, SheetReading, places};
 
 // Where a conversion leads: to the second layout, with open lanes, or to the first, without.
-#[derive(Drop)]
+#[derive(Clone, Copy)]
 pub enum Way {
     ToSecond,
     ToFirst,
 }
 
 // What a conversion gives: how many bytes were written, or the refusal's number and its offset from the study's start.
-#[derive(Drop)]
+#[derive(Clone, Copy)]
 pub enum Answer {
     Count(usize),
     Refused { number: u8, offset: usize },
 }
 
 // What a walk over a study tells: refusal is 0, or its number with its offset; count is that of the bytes in the other layout.
-#[derive(Drop)]
+#[derive(Clone, Copy)]
 struct Walked {
     refusal: u8,
     offset: usize,

@@ -9,7 +9,7 @@ use convert::{Answer, Way};
 use records::{Record, say};
 use text::Numeral;
 
-#[derive(Drop)]
+#[derive(Clone, Copy)]
 enum Call {
     Convert(Way),
     Turn(Way),

@@ -9,14 +9,14 @@ use sections::section;
 use sections::section::Section;
 
 // A demand that a section may have, or none.
-#[derive(Drop)]
+#[derive(Clone, Copy)]
 pub enum Demand {
     Within(u32),
     Outside,
 }
 
 // Whether every demand is one that a section may have, and then each, zeros past the section count.
-#[derive(Drop)]
+#[derive(Clone, Copy)]
 pub struct Demands {
     pub fit: bool,
     pub each: [u32; 64],

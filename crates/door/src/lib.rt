@@ -8,7 +8,7 @@ use steps::State;
 
 // A road that is laid, the period sheet in force with the sheets taken so far and the steps made under the last, the state of the
 // step rules, and the sums: arrived, left and part-steps.
-#[derive(Drop)]
+#[derive(Clone, Copy)]
 pub struct Facility {
     pub road: [u32; 452],
     pub period: [u32; 452],

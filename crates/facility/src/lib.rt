@@ -14,7 +14,7 @@ use letters::Level;
 use numbers::Written;
 
 // What laying, taking and running give: refusal is 0, or its number with its offset; used counts the bytes read.
-#[derive(Drop)]
+#[derive(Clone, Copy)]
 pub struct Reply {
     pub refusal: u8,
     pub offset: usize,
@@ -23,7 +23,7 @@ pub struct Reply {
 }
 
 // A segment report: n, q, the last step's f, r, off(y) and y, and the level letter.
-#[derive(Drop)]
+#[derive(Clone, Copy)]
 pub struct SegmentReport {
     pub refusal: u8,
     pub n: u32,
@@ -36,7 +36,7 @@ pub struct SegmentReport {
 }
 
 // The totals: arrived, left, stored and part-steps.
-#[derive(Drop)]
+#[derive(Clone, Copy)]
 pub struct Sums {
     pub refusal: u8,
     pub arrived: u64,

@@ -6,7 +6,7 @@ use numbers::Written;
 use text::Numeral;
 
 // The bytes put so far, and whether the text goes on.
-#[derive(Drop)]
+#[derive(Clone, Copy)]
 struct Done {
     used: usize,
     more: bool,

@@ -3,7 +3,7 @@ ghost use Rattle.std.specs.Prelude.{◌≡◌, ◌≤◌, length};
 ghost use Rattle.hexadecimal.specs.Spelling.{hex_value, read_bytes, HasBytes};
 
 // How many bytes a word spells, or that it is too long for the room, or not bytes in hexadecimal.
-#[derive(Drop)]
+#[derive(Clone, Copy)]
 pub enum Spelled {
     Count(usize),
     TooLong,

@@ -3,7 +3,7 @@ ghost use Rattle.std.specs.Prelude.{◌≡◌, ◌≤◌};
 ghost use Rattle.letters.specs.Level.{holds_at_most, level_by, level_of, letter_byte};
 
 // The level letter.
-#[derive(Drop)]
+#[derive(Clone, Copy)]
 pub enum Level {
     A,
     B,

@@ -1,4 +1,6 @@
 // Seven-bit numbers: groups of seven bits, lowest group first, the top bit set on all groups but the last.
+#![tactic(auto)]
+
 ghost use Rattle.std.specs.Prelude.{◌≡◌, ◌+◌, ◌*◌, ◌^◌, ◌<◌, ◌≤◌, ◌++◌};
 ghost use lib.ListN.{drop};
 ghost use Rattle.numbers.specs.Number.{reading, read_number, last, number_bytes, above};
@@ -6,21 +8,21 @@ ghost use Rattle.numbers.specs.Field.{read_field};
 ghost use Rattle.numbers.specs.Writing.{writing, write_answer, write_into};
 
 // What reading a number gives: its value and the place after it, or the refusal's number.
-#[derive(Drop)]
+#[derive(Clone, Copy)]
 pub enum Number {
     Value { value: u32, next: usize },
     Refused(u8),
 }
 
 // What writing gives: how many bytes were written, or the refusal's number.
-#[derive(Drop)]
+#[derive(Clone, Copy)]
 pub enum Written {
     Count(usize),
     Refused(u8),
 }
 
 // The values that a field may have, and the refusal of any other.
-#[derive(Drop)]
+#[derive(Clone, Copy)]
 pub struct Range {
     pub low: u32,
     pub high: u32,

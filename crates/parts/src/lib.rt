@@ -91,7 +91,7 @@ pub fn is_period(road: &[u32; 452], row: &[u32; 452]) -> bool
 }
 
 // A road's first four numbers: NS, KJ, KC, A.
-#[derive(Drop)]
+#[derive(Clone, Copy)]
 pub struct RoadGlobals {
     pub segments: u32,
     pub jam: u32,
@@ -100,7 +100,7 @@ pub struct RoadGlobals {
 }
 
 // A segment: L, N, V, C, R, s, F.
-#[derive(Drop)]
+#[derive(Clone, Copy)]
 pub struct Segment {
     pub length: u32,
     pub lanes: u32,
@@ -112,7 +112,7 @@ pub struct Segment {
 }
 
 // A period's first three numbers: NS, the mainline demand, X.
-#[derive(Drop)]
+#[derive(Clone, Copy)]
 pub struct PeriodGlobals {
     pub segments: u32,
     pub demand: u32,
@@ -120,7 +120,7 @@ pub struct PeriodGlobals {
 }
 
 // A segment's entry in a period: the ramp's demand and meter rate, and how many lanes are open.
-#[derive(Drop)]
+#[derive(Clone, Copy)]
 pub struct Entry {
     pub demand: u32,
     pub meter: u32,

@@ -9,7 +9,7 @@ use solving::{Done, Service};
 
 // What a sheet gives: a refusal's number, 0 for none, and its offset; the bytes used; an answer for each section, free with zeros past
 // the section count; the facility's density and letter.
-#[derive(Drop)]
+#[derive(Clone, Copy)]
 pub struct Planned {
     pub refusal: u8,
     pub offset: usize,

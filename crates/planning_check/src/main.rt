@@ -9,7 +9,7 @@ use solving::{Done, Service};
 use text::Numeral;
 
 // How many numbers a list gave; one that is no list of numbers, or has too many, is not fine.
-#[derive(Drop)]
+#[derive(Clone, Copy)]
 struct Listed {
     fine: bool,
     count: usize,

@@ -8,7 +8,7 @@ use sections::section::Section;
 use sections::table;
 
 // What reading a sheet gives: the section count, the row and the bytes used; or a refusal's number and offset.
-#[derive(Drop)]
+#[derive(Clone, Copy)]
 pub struct SectionsReading {
     pub read: bool,
     pub refusal: u8,

@@ -7,7 +7,7 @@ use input::{Kind, Source};
 use text::{Numeral, Word};
 
 // A record, by its place in the line; none is left where start and end are the same.
-#[derive(Drop)]
+#[derive(Clone, Copy)]
 pub struct Record {
     pub start: usize,
     pub end: usize,
@@ -15,14 +15,14 @@ pub struct Record {
 }
 
 // How many bytes a word gave; a word that is not bytes in hexadecimal is not fine.
-#[derive(Drop)]
+#[derive(Clone, Copy)]
 pub struct Bytes {
     pub fine: bool,
     pub count: usize,
 }
 
 // Numbers that a record may give, with the defaults where it does not; one that is no number, or a third, is not fine.
-#[derive(Drop)]
+#[derive(Clone, Copy)]
 pub struct Numbers {
     pub fine: bool,
     pub first: u32,

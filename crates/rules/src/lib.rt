@@ -8,14 +8,14 @@ ghost use Rattle.rules.specs.Good.{GoodSplit};
 use arithmetic::{least, less, wide};
 
 // What the split of leaving parts goes by: the share s, and the remainder at the step's start.
-#[derive(Drop)]
+#[derive(Clone, Copy)]
 pub struct Split {
     pub share: u32,
     pub remainder: u32,
 }
 
 // What leaves a segment: y of them, through(y) by the mainline; and the remainder after.
-#[derive(Drop)]
+#[derive(Clone, Copy)]
 pub struct Outflow {
     pub out: u32,
     pub onward: u32,
@@ -23,7 +23,7 @@ pub struct Outflow {
 }
 
 // What enters at a node: the mainline flow f and the ramp flow r.
-#[derive(Drop)]
+#[derive(Clone, Copy)]
 pub struct Flow {
     pub main: u32,
     pub ramp: u32,

@@ -3,7 +3,7 @@ pub mod section;
 pub mod table;
 
 // A section's answer. Rates are seconds a mile, speed is miles an hour, density is vehicles a mile and lane.
-#[derive(Drop)]
+#[derive(Clone, Copy)]
 pub enum Answer {
     Free {
         speed: f64,

@@ -7,7 +7,7 @@ use crate::table::Row;
 use crate::{Answer, table};
 
 // A section of the sheet: length in feet, lanes, free-flow speed, capacity factor in thousandths, and the flows in and out.
-#[derive(Drop)]
+#[derive(Clone, Copy)]
 pub struct Section {
     pub length: u32,
     pub lanes: u32,
@@ -18,7 +18,7 @@ pub struct Section {
 }
 
 // A section while it is worked out: demand to capacity, the two delay rates, speed and density.
-#[derive(Drop)]
+#[derive(Clone, Copy)]
 pub struct Work {
     pub ratio: f64,
     pub under: f64,

@@ -4,7 +4,7 @@ ghost use Rattle.sections.specs.Table.{tabled, row_of};
 ghost use Rattle.sections.specs.Places.{place_of};
 
 // A, B, C, D and the ratio E from which they apply.
-#[derive(Drop)]
+#[derive(Clone, Copy)]
 pub struct Row {
     pub a: f64,
     pub b: f64,

@@ -18,7 +18,7 @@ use rules::{Outflow, Split, held_back, merged, most_leaving, ramp_wish, supply_o
 // A segment's state: n parts in it and q in its on-ramp's queue; of the last step the mainline flow f and the ramp flow r that
 // entered, off(y) that left by the off-ramp, and y that left in all; and the remainder, thousandths of a part that the off-ramp's
 // share has left over.
-#[derive(Drop)]
+#[derive(Clone, Copy)]
 pub struct Cell {
     pub n: u32,
     pub q: u32,
@@ -30,7 +30,7 @@ pub struct Cell {
 }
 
 // What enters a segment: the mainline flow f and the ramp flow r, the ramp's queue that is left, and whether f is all who wished to.
-#[derive(Drop)]
+#[derive(Clone, Copy)]
 pub struct Entered {
     pub main: u32,
     pub ramp: u32,
@@ -39,7 +39,7 @@ pub struct Entered {
 }
 
 // What a segment sends on: what leaves where Y0 do, of whom those who go on wish to enter at the node ahead, and whether the segment is queued.
-#[derive(Drop)]
+#[derive(Clone, Copy)]
 pub struct Sent {
     pub most: Outflow,
     pub queued: bool,

@@ -11,7 +11,7 @@ ghost use Rattle.sheets.specs.Write.{row_bytes, road_row, period_row};
 use numbers::{Number, Range, Written};
 
 // A road of so many segments, or a period of a road of so many; the first layout of a period has no open lanes.
-#[derive(Drop)]
+#[derive(Clone, Copy)]
 pub enum Layout {
     Road(u32),
     Period(u32),
@@ -20,7 +20,7 @@ pub enum Layout {
 
 // What reading a sheet gives, its numbers in field order with zeros after them: refusal is 0, or its number, with the offset of the
 // field's first byte; used counts the bytes read.
-#[derive(Drop)]
+#[derive(Clone, Copy)]
 pub struct SheetReading {
     pub refusal: u8,
     pub offset: usize,

@@ -9,7 +9,7 @@ use records::{Numbers, Record, say, say_number};
 use sheets::{Layout, SheetReading};
 use text::Numeral;
 
-#[derive(Drop)]
+#[derive(Clone, Copy)]
 enum Call {
     ReadNumber,
     WriteNumber,
@@ -22,7 +22,7 @@ enum Call {
 }
 
 // The numbers of the road that a word gives; a word that is not bytes in hexadecimal is not fine.
-#[derive(Drop)]
+#[derive(Clone, Copy)]
 struct Road {
     fine: bool,
     row: [u32; 452],

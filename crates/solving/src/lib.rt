@@ -8,13 +8,13 @@ ghost use Rattle.solving.specs.Facility.{density_in, queued_in, added_of, answer
 use sections::section::Section;
 use sections::{Answer, section};
 
-#[derive(Drop)]
+#[derive(Clone, Copy)]
 pub struct Done {
     pub answer: Answer,
 }
 
 // The level of service.
-#[derive(Drop)]
+#[derive(Clone, Copy)]
 pub enum Service {
     A,
     B,
@@ -25,7 +25,7 @@ pub enum Service {
 }
 
 // Sums over the sections: density times area, area in lane-feet, and whether any is queued.
-#[derive(Drop)]
+#[derive(Clone, Copy)]
 pub struct Totals {
     pub mass: f64,
     pub area: u32,
@@ -33,7 +33,7 @@ pub struct Totals {
 }
 
 // The answers, free with zeros past the section count, and their sums.
-#[derive(Drop)]
+#[derive(Clone, Copy)]
 pub struct Solved {
     pub answers: [Done; 64],
     pub totals: Totals,

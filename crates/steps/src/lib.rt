@@ -11,7 +11,7 @@ use conditions::{demand_in, in_force_at, outlet_in, segments_in};
 use segment::{Cell, flow_at, moved_at, sent_at};
 
 // The road's state: the segments' cells, the mainline queue o before node 1, and of the last step the flow f at the exit.
-#[derive(Drop)]
+#[derive(Clone, Copy)]
 pub struct State {
     pub cells: [Cell; 64],
     pub origin: u32,
@@ -19,14 +19,14 @@ pub struct State {
 }
 
 // What a state has beside its cells: the queue o, and the flow f at the exit.
-#[derive(Drop)]
+#[derive(Clone, Copy)]
 pub struct Ends {
     pub origin: u32,
     pub exit: u32,
 }
 
 // What a step gives beside the cells: the ends after it, and how many parts left in it.
-#[derive(Drop)]
+#[derive(Clone, Copy)]
 pub struct Stepped {
     pub ends: Ends,
     pub left: u32,

@@ -9,7 +9,7 @@ ghost use Rattle.study.specs.Shown.{line_at, shown};
 use door::Facility;
 
 // A segment's line of the listing: n, q and the byte of the level letter.
-#[derive(Drop)]
+#[derive(Clone, Copy)]
 pub struct Line {
     pub n: u32,
     pub q: u32,
@@ -17,7 +17,7 @@ pub struct Line {
 }
 
 // What the listing shows, or a refusal's number with its place in the file; lines past the last segment are zeros.
-#[derive(Drop)]
+#[derive(Clone, Copy)]
 pub struct Listing {
     pub refusal: u8,
     pub place: usize,

@@ -3,14 +3,14 @@ ghost use Rattle.std.specs.Prelude.{◌≡◌, ◌+◌, ◌-◌, ◌*◌, ◌≤
 ghost use Rattle.text.specs.Text.{is_white, is_digit, stops, first_from, word_at, number_of, same_word};
 
 // A word of a line, from its first byte to before its end; none is left where both are the same.
-#[derive(Drop)]
+#[derive(Clone, Copy)]
 pub struct Word {
     pub start: usize,
     pub end: usize,
 }
 
 // A decimal number up to 2 ^ 32 - 1, or something else.
-#[derive(Drop)]
+#[derive(Clone, Copy)]
 pub enum Numeral {
     Value(u32),
     Other,

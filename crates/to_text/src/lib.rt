@@ -4,7 +4,7 @@ use numbers::{Number, Range};
 use sheets::{Layout, SheetReading};
 
 // A refusal's number, 0 for none, and its place in the bytes.
-#[derive(Drop)]
+#[derive(Clone, Copy)]
 struct Refusal {
     number: u8,
     place: usize,
@@ -12,7 +12,7 @@ struct Refusal {
 
 // The next field: its first byte, its sheet (0 is the road, i the period i) and its place there; the road's NS; whether all before it
 // was written.
-#[derive(Drop)]
+#[derive(Clone, Copy)]
 struct Next {
     at: usize,
     sheet: u32,
