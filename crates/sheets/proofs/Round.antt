@@ -41,6 +41,12 @@ value_reads : (l : Layout) (road : List ℕ) (k v : ℕ) (before rest : List ℕ
     → read_field (range_of l road k) (before ++ (number_bytes v ++ rest)) (length before) ≡ Read v (length before + length (number_bytes v))
 value_reads l road k v before rest h = field_value _ _ _ _ _ (written_reads v before rest h.1) h.0
 
+-- a field that was read stands before the fields that follow it
+field_before : (field : (place at : ℕ) → Reading) (left k at v next : ℕ) → field k at ≡ Read v next
+    → fields field (suc left) k at ≡ onto (v ∷ []) (fields field left (k + 1) next)
+unfolding fields and_then
+field_before field left k at v next e = rw e
+
 reads_fields : (l : Layout) (road row : List ℕ) (k : ℕ) (before rest : List ℕ) → Each (Writable l road) k row
     → fields (field_of l road (before ++ (row_bytes row ++ rest))) (length row) k (length before) ≡ ReadRow row (length before + length (row_bytes row))
 unfolding fields and_then onto row_bytes
@@ -49,7 +55,8 @@ reads_fields l road (v ∷ row) k before rest h =
     let f = value_reads l road k v before (row_bytes row ++ rest) (each_head (Writable l road) k v row h) in
     let more = reads_fields l road row (k + 1) (before ++ number_bytes v) rest (each_tail (Writable l road) k v row h) in
     let ih = simp (append_assoc, length-append, add_assoc) at more in
-    simp (append_assoc, length-append) (rw (f, ih))
+    simp (append_assoc, length-append)
+    (field_before _ (length row) k (length before) v _ f ∙ ap (onto (v ∷ [])) ih)
 
 pub written_row : (l : Layout) (road row rest : List ℕ) → RowOf l road row → Fitting row
     → read_row l road (row_bytes row ++ rest) ≡ ReadRow row (length (row_bytes row))

@@ -9,15 +9,12 @@ use Rattle.numbers.proofs.Turns.{top}
 use Rattle.numbers.proofs.Stores.{store_inside, store_rest, store_more, store_whole, bytes_more, bytes_last, top_down}
 use Rattle.numbers.proofs.put.Goals as goal
 
--- at the loop's head: the number's bytes, and what is left of them where x has more groups and where it has not
-abbrev W : goal.At-loop-x → List ℕ
-W c = number_bytes c.args.value
-
+-- what is left of the number's bytes at the loop's head, where x has more groups and where it has not
 more : (c : goal.In-loop-x)
-    → drop c.loop-x.i (W c) ≡ low_group c.loop-x.x ∷ bytes_from (c.loop-x.left - 1) (c.loop-x.x / 128)
+    → drop c.loop-x.i (number_bytes c.args.value) ≡ low_group c.loop-x.x ∷ bytes_from (c.loop-x.left - 1) (c.loop-x.x / 128)
 more c = c.loop-x.invariant.1 ∙ bytes_more _ _ c.loop-x-test.true c.loop-x.invariant.2
 
-last : (c : goal.After-loop-x) → drop c.loop-x.i (W c) ≡ c.loop-x.x ∷ []
+last : (c : goal.After-loop-x) → drop c.loop-x.i (number_bytes c.args.value) ≡ c.loop-x.x ∷ []
 last c = c.loop-x.invariant.1 ∙ bytes_last _ _ c.loop-x-test.false
 
 pub loop-x-init : goal.loop-x-init
@@ -25,10 +22,10 @@ unfolding number_bytes top
 loop-x-init c = (refl, refl, omega arith, refl)
 
 pub bounds-out-i : goal.bounds-out-i
-bounds-out-i c = omega (arith, store_inside (W c) c.loop-x.i _ _ (more c))
+bounds-out-i c = omega (arith, store_inside (number_bytes c.args.value) c.loop-x.i _ _ (more c))
 
 pub overflow_add-i : goal.overflow_add-i
-overflow_add-i c = omega (arith, store_inside (W c) c.loop-x.i _ _ (more c))
+overflow_add-i c = omega (arith, store_inside (number_bytes c.args.value) c.loop-x.i _ _ (more c))
 
 pub overflow_sub-left : goal.overflow_sub-left
 overflow_sub-left c = (top_down _ _ c.loop-x-test.true c.loop-x.invariant.2).0
@@ -39,7 +36,7 @@ loop-x-smaller c = omega (arith, (top_down _ _ c.loop-x-test.true c.loop-x.invar
 pub loop-x-preserved : goal.loop-x-preserved
 loop-x-preserved c =
     let l = c.loop-x in
-    let w = W c in (
+    let w = number_bytes c.args.value in (
       ap (λ (o : List ℕ). set o l.i (low_group l.x)) l.invariant.0
           ∙ store_more w l.i _ _ (more c) c.args.out.now c.requires,
       store_rest w l.i _ _ (more c),
@@ -48,7 +45,7 @@ loop-x-preserved c =
     )
 
 pub bounds-out-i-2 : goal.bounds-out-i-2
-bounds-out-i-2 c = omega (arith, store_inside (W c) c.loop-x.i _ _ (last c))
+bounds-out-i-2 c = omega (arith, store_inside (number_bytes c.args.value) c.loop-x.i _ _ (last c))
 
 pub shape_of-out : goal.shape_of-out
 shape_of-out c = simp length-set c.loop-x.invariant.3
@@ -56,7 +53,7 @@ shape_of-out c = simp length-set c.loop-x.invariant.3
 pub returns : goal.returns
 returns c =
     let l = c.loop-x in
-    let w = W c in
+    let w = number_bytes c.args.value in
     let d = c.args.out.now in
     ap (λ (o : List ℕ). set o l.i l.x) l.invariant.0
     ∙ store_more w l.i _ _ (last c) d c.requires
