@@ -1,7 +1,7 @@
 -- A sheet written and read again is the same sheet, with the written count used, wherever it stands in a buffer; one read and written
 -- again is the bytes that its reading used. Once for every layout; a road's layout is known by its first number. A number of more than
 -- 32 bits has no bytes, so a period is written and read on a road whose lanes have no more.
-use mathlib.Core.Path.{◌≡◌, refl, sym, ap, ◌∙◌}
+use mathlib.Core.Path.{◌≡◌, refl, sym, ap, subst, ◌∙◌}
 use Prim.Native.Nat.{ℕ, zero, suc, ◌+◌, ◌-◌, ◌^◌, ◌≤◌, ◌<◌}
 use mathlib.Core.List.{List, [], ◌∷◌, ◌++◌, append_assoc}
 use native.Mathlib.Nat.{zero-add, add-zero, add_assoc}
@@ -55,8 +55,13 @@ reads_fields l road (v ∷ row) k before rest h =
     let f = value_reads l road k v before (row_bytes row ++ rest) (each_head (Writable l road) k v row h) in
     let more = reads_fields l road row (k + 1) (before ++ number_bytes v) rest (each_tail (Writable l road) k v row h) in
     let ih = simp (append_assoc, length-append, add_assoc) at more in
-    simp (append_assoc, length-append)
-    (field_before _ (length row) k (length before) v _ f ∙ ap (onto (v ∷ [])) ih)
+    let bytes : row_bytes (v ∷ row) ++ rest ≡ number_bytes v ++ (row_bytes row ++ rest) = simp append_assoc in
+    let P : List ℕ → Type 0 = λ s. fields (field_of l road (before ++ s)) (suc (length row)) k (length before)
+        ≡ ReadRow (v ∷ row) (length before + length (row_bytes (v ∷ row))) in
+    subst P (sym bytes)
+    (field_before _ (length row) k (length before) v _ f
+    ∙ ap (onto (v ∷ [])) ih
+    ∙ ap (λ (n : ℕ). ReadRow (v ∷ row) (length before + n)) (sym (length-append (number_bytes v) (row_bytes row))))
 
 pub written_row : (l : Layout) (road row rest : List ℕ) → RowOf l road row → Fitting row
     → read_row l road (row_bytes row ++ rest) ≡ ReadRow row (length (row_bytes row))
