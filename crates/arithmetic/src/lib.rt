@@ -1,4 +1,6 @@
 // Small arithmetic of the layers above the sheets, so that branches do not meet in its callers.
+#![tactic(auto)]
+
 ghost use Rattle.std.specs.Prelude.{◌≡◌, ◌-◌, ◌<◌, min};
 
 // The same number in a wider type.
