@@ -1,4 +1,6 @@
 // A road and a period by their parts: whether their numbers are in their ranges, and each number by its name.
+#![tactic(auto)]
+
 ghost use Rattle.std.specs.Prelude.{◌≡◌, ◌+◌, ◌*◌, ◌<◌, get_or};
 ghost use Rattle.sheets.specs.Layout.{segment_table, road_table, entry_table, lanes_of, period_range, no_range};
 ghost use Rattle.parts.specs.Allowed.{within, all_below, road_allowed, period_allowed};

@@ -57,7 +57,7 @@ reads_fields l road (v ∷ row) k before rest h =
     let ih = simp (append_assoc, length-append, add_assoc) at more in
     let bytes : row_bytes (v ∷ row) ++ rest ≡ number_bytes v ++ (row_bytes row ++ rest) = simp append_assoc in
     let P : List ℕ → Type 0 = λ s. fields (field_of l road (before ++ s)) (suc (length row)) k (length before)
-        ≡ ReadRow (v ∷ row) (length before + length (row_bytes (v ∷ row))) in
+    ≡ ReadRow (v ∷ row) (length before + length (row_bytes (v ∷ row))) in
     subst P (sym bytes)
     (field_before _ (length row) k (length before) v _ f
     ∙ ap (onto (v ∷ [])) ih

@@ -1,4 +1,6 @@
 // Road and period sheets: rows of numbers in field order, each in the range that the sheet's layout gives its place.
+#![tactic(auto)]
+
 pub mod places;
 mod writing;
 
