@@ -1,4 +1,6 @@
 // What is in force while a step is made, worked out once from a road and a period sheet into a row of numbers.
+#![tactic(auto)]
+
 ghost use Rattle.std.specs.Prelude.{◌≡◌, ◌≤◌, ◌<◌, length};
 ghost use Rattle.parts.specs.Good.{GoodSegment, GoodRoad, GoodEntry, GoodPeriod};
 ghost use Rattle.conditions.specs.Conditions.{open_capacity, parts_at, lowered_by, in_force, Under, conditions_of, in_force_at};

@@ -66,11 +66,11 @@ module _ (way : Way) (road : List ℕ) (has : Laned road) where
     each : rows ≡ map (converted_row way road) from
     opened : EverySheet (Open way road) from
 
-  sheets_from : (bytes : List ℕ) {left at : ℕ} {rows : List (List ℕ)} → Sheeted (converted_sheet way road) bytes left at rows → Origin bytes left at rows
-  sheets_from bytes (end h) = record { from = []; read = end h; each = refl; opened = tt }
-  sheets_from bytes (more {left} {at} {row} {used} {rows} h e t) =
+  sheets_from_lem : (bytes : List ℕ) {left at : ℕ} {rows : List (List ℕ)} → Sheeted (converted_sheet way road) bytes left at rows → Origin bytes left at rows
+  sheets_from_lem bytes (end h) = record { from = []; read = end h; each = refl; opened = tt }
+  sheets_from_lem bytes (more {left} {at} {row} {used} {rows} h e t) =
       let g = converted_from_lem (drop at bytes) row used e in
-      let others = sheets_from bytes t in
+      let others = sheets_from_lem bytes t in
       record {
         from = g.0 ∷ others.from;
         read = more h g.1 others.read;
@@ -102,7 +102,7 @@ study_on : (way : Way) (bytes out : List ℕ) (r : Rows) → read_road bytes ≡
 study_on way bytes out (RefusedAt number offset) road e = absurd (let z : ◌≡◌ {A = ℕ} 0 1 = cc in omega arith)
 study_on way bytes out (ReadRow row used) road e =
     let b = behind_back (take used bytes) (sheets_from (converted_sheet way (padded row)) 96 bytes used) out e in
-    let o = sheets_from way (padded row) (laned bytes row used road) bytes (sheeted (converted_sheet way (padded row)) bytes 96 used b.0 b.1) in
+    let o = sheets_from_lem way (padded row) (laned bytes row used road) bytes (sheeted (converted_sheet way (padded row)) bytes 96 used b.0 b.1) in
     record {
       row = row;
       used = used;

@@ -1,4 +1,6 @@
 // A whole study in the other layout of its period sheets: from the first, without open lanes, to the second with every lane open, and back.
+#![tactic(auto)]
+
 ghost use Rattle.std.specs.Prelude.{◌≡◌, ◌<◌, ◌≤◌, length, take};
 ghost use Rattle.numbers.specs.Row.{RefusedAt};
 ghost use Rattle.numbers.specs.Writing.{write_into};

@@ -1,4 +1,6 @@
 // A facility as a value, and the test at the door: what every facility has that a laying and calls can produce.
+#![tactic(auto)]
+
 ghost use Rattle.std.specs.Prelude.{◌≡◌, ◌≤◌};
 ghost use Rattle.door.specs.Sound.{steps_by, counted, sheeted, cell_bounded, state_bounded, sums_bounded, sound};
 

@@ -1,4 +1,6 @@
 // The calls on a facility: a road with its state, its sheet in force and its sums, by value.
+#![tactic(auto)]
+
 ghost use Rattle.std.specs.Prelude.{◌≡◌, ◌≤◌, ◌<◌};
 ghost use Rattle.numbers.specs.Writing.{writing};
 ghost use Rattle.parts.specs.Good.{GoodRoad};

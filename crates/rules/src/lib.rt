@@ -1,4 +1,6 @@
 // The step rules as formulas of numbers, each division spared where a comparison knows its result.
+#![tactic(auto)]
+
 ghost use Rattle.std.specs.Prelude.{◌≡◌, ℕ, ◌*◌, ◌≤◌, ◌<◌};
 ghost use Rattle.conditions.specs.Shortcuts.{full_from};
 ghost use Rattle.rules.specs.Rules.{wish_to_leave, off, through, most_leaving, ramp_wish, supply, ramp_flow, main_flow, merge, leaving};

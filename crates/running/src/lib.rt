@@ -1,4 +1,6 @@
 // Steps made on a facility under its sheet in force.
+#![tactic(auto)]
+
 ghost use Rattle.std.specs.Prelude.{◌≡◌};
 ghost use Rattle.running.specs.Steps.{steps_of};
 ghost use Rattle.running.specs.Ready.{Ready};

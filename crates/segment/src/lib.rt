@@ -1,4 +1,6 @@
 // The rules at one segment, by the conditions in a row and the segment's cell.
+#![tactic(auto)]
+
 ghost use Rattle.std.specs.Prelude.{◌≡◌, ◌+◌, ◌-◌, ◌≤◌, ◌<◌, leb};
 ghost use Rattle.conditions.specs.Conditions.{in_force_at};
 ghost use Rattle.conditions.specs.Good.{GoodConditions};

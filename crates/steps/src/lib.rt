@@ -1,4 +1,6 @@
 // One step of the road under the conditions in force, part by part and in place.
+#![tactic(auto)]
+
 ghost use Rattle.std.specs.Prelude.{◌≡◌, ◌≤◌, ◌<◌, length};
 ghost use Rattle.conditions.specs.Good.{GoodConditions};
 ghost use Rattle.conditions.specs.Row.{conditions_in, HasShortcuts};

@@ -1,4 +1,6 @@
 // A whole study: from the bytes of its file to everything the listing shows.
+#![tactic(auto)]
+
 ghost use Rattle.std.specs.Prelude.{◌≡◌, true, ◌+◌, ◌≤◌, ◌<◌, ◌++◌, length, take, drop, set};
 ghost use Rattle.conditions.specs.Conditions.{segments};
 ghost use Rattle.door.specs.Sound.{sound};

@@ -1,4 +1,6 @@
 // Calls made over and over, exported so that one call can be timed.
+#![tactic(auto)]
+
 ghost use Rattle.std.specs.Prelude.{◌≡◌, ◌+◌, ◌%◌};
 ghost use Rattle.steps.specs.Step.{sum_to};
 ghost use Rattle.facility.specs.Calls.{lay_of, run_of, report_of, totals_of};
