@@ -3,7 +3,70 @@
 
 ghost use Rattle.std.specs.Prelude.{◌≡◌, ◌≤◌, length};
 
-use std::io::Read;
+use std::io::{Read, Write};
+use std::rt::Files;
+use std::{fs, io};
+
+// A file that was to be opened; where it was not, each read and write fails as the opening did.
+#[derive(Drop)]
+pub struct Opened<F> {
+    file: io::Result<F>,
+}
+
+impl<F: Read> Read for Opened<F> {
+    fn read(&mut self, buffer: &mut [u8]) -> io::Result<usize> {
+        match &mut self.file {
+            Ok(file) => file.read(buffer),
+            Err(error) => Err(*error),
+        }
+    }
+}
+
+impl<F: Write> Write for Opened<F> {
+    fn write(&mut self, bytes: &[u8]) -> io::Result<usize> {
+        match &mut self.file {
+            Ok(file) => file.write(bytes),
+            Err(error) => Err(*error),
+        }
+    }
+
+    fn flush(&mut self) -> io::Result<()> {
+        match &mut self.file {
+            Ok(file) => file.flush(),
+            Err(error) => Err(*error),
+        }
+    }
+}
+
+// A path is text.
+fn path(name: &[u8]) -> io::Result<&str> {
+    match str::from_utf8(name) {
+        Ok(path) => Ok(path),
+        Err(_) => Err(io::Error::from(io::ErrorKind::InvalidInput)),
+    }
+}
+
+fn open_path<R: Files>(files: &R, name: &[u8]) -> io::Result<R::File> {
+    fs::open(files, path(name)?)
+}
+
+fn create_path<R: Files>(files: &R, name: &[u8]) -> io::Result<R::File> {
+    fs::create(files, path(name)?)
+}
+
+// Opens a file that is to be read.
+pub fn open<R: Files>(files: &R, name: &[u8]) -> Opened<R::File> {
+    Opened {
+        file: open_path(files, name),
+    }
+}
+
+// Opens a file that is to be written from its start, and empties it.
+pub fn create<R: Files>(files: &R, name: &[u8]) -> Opened<R::File> {
+    Opened {
+        file: create_path(files, name),
+    }
+}
 
 // How many bytes were read, and whether a read failed.
 #[derive(Clone, Copy)]
