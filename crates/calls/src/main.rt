@@ -1,12 +1,15 @@
 // Plays lists of calls from standard input, one call a line, and prints each line again with its answer:
 //     lay HEX    take HEX    run K    report SEGMENT    totals    write-road [ROOM [PLACE]]    write-period [ROOM [PLACE]]
 // HEX is bytes in hexadecimal, `-` for none. ROOM is that of the buffer, up to 65,536, which is also the default; PLACE is 0 by default.
+#![tactic(auto)]
+
 ghost use Rattle.std.specs.Prelude.{◌≡◌, length};
 
 use door::Facility;
 use facility::{Reply, SegmentReport, Sums};
 use numbers::Written;
 use records::{Record, say, say_number};
+use std::io::Write;
 use text::Numeral;
 
 #[derive(Clone, Copy)]
@@ -51,96 +54,93 @@ fn call_of(name: &[u8]) -> Call {
     reading_of(name)
 }
 
-fn say_not_a_call() {
-    say(b"not a call");
+fn say_not_a_call<W: Write>(output: &mut W) {
+    say(output, b"not a call");
 }
 
 // What laying or taking gave: the bytes used, or the refusal.
-fn say_used(r: Reply) -> Facility {
-    let f = r.facility;
+fn say_used<W: Write>(output: &mut W, r: Reply) -> Facility {
     if r.refusal == 0 {
-        say_number(b"ok used ", r.used as u64);
+        say_number(output, b"ok used ", r.used as u64);
     } else {
-        records::say_refused(r.refusal, r.offset);
+        records::say_refused(output, r.refusal, r.offset);
     }
-    f
+    r.facility
 }
 
 // Lays a road, or takes a period sheet.
-fn play_sheet(f: Facility, is_road: bool, rest: &[u8]) -> Facility {
-    let mut bytes = io::large_buffer();
+fn play_sheet<W: Write>(output: &mut W, f: Facility, is_road: bool, rest: &[u8]) -> Facility {
+    let mut bytes = input::large_buffer();
     let given = records::only_bytes(rest, &mut bytes);
-    let n = given.count;
     if !given.fine {
-        say_not_a_call();
+        say_not_a_call(output);
         return f;
     }
+    let sheet = &bytes[..given.count];
     if is_road {
-        return say_used(facility::lay(&bytes[0..n]));
+        return say_used(output, facility::lay(sheet));
     }
-    say_used(facility::take(f, &bytes[0..n]))
+    say_used(output, facility::take(f, sheet))
 }
 
-fn say_run(r: Reply) -> Facility {
-    let f = r.facility;
+fn say_run<W: Write>(output: &mut W, r: Reply) -> Facility {
     if r.refusal == 0 {
-        say(b"ok");
+        say(output, b"ok");
     } else {
-        records::say_refused(r.refusal, r.offset);
+        records::say_refused(output, r.refusal, r.offset);
     }
-    f
+    r.facility
 }
 
-fn play_run(f: Facility, rest: &[u8]) -> Facility {
+fn play_run<W: Write>(output: &mut W, f: Facility, rest: &[u8]) -> Facility {
     match records::only_number(rest) {
-        Numeral::Value(k) => say_run(facility::run(f, k)),
+        Numeral::Value(k) => say_run(output, facility::run(f, k)),
         Numeral::Other => {
-            say_not_a_call();
+            say_not_a_call(output);
             f
         }
     }
 }
 
-fn say_report(r: SegmentReport) {
-    let level = r.level;
+fn say_report<W: Write>(output: &mut W, r: SegmentReport) {
     if r.refusal != 0 {
-        records::say_refused(r.refusal, 0);
+        records::say_refused(output, r.refusal, 0);
         return;
     }
-    say_number(b"ok n ", r.n as u64);
-    say_number(b" q ", r.q as u64);
-    say_number(b" f ", r.main as u64);
-    say_number(b" r ", r.ramp as u64);
-    say_number(b" off ", r.off as u64);
-    say_number(b" y ", r.out as u64);
-    say(&[b' ', letters::letter_byte(level)]);
+    say_number(output, b"ok n ", r.n as u64);
+    say_number(output, b" q ", r.q as u64);
+    say_number(output, b" f ", r.main as u64);
+    say_number(output, b" r ", r.ramp as u64);
+    say_number(output, b" off ", r.off as u64);
+    say_number(output, b" y ", r.out as u64);
+    say(output, &[b' ', letters::letter_byte(r.level)]);
 }
 
-fn play_report(f: Facility, rest: &[u8]) {
+fn play_report<W: Write>(output: &mut W, f: Facility, rest: &[u8]) {
     match records::only_number(rest) {
-        Numeral::Value(i) => say_report(facility::report(f, i)),
-        Numeral::Other => say_not_a_call(),
+        Numeral::Value(i) => say_report(output, facility::report(f, i)),
+        Numeral::Other => say_not_a_call(output),
     }
 }
 
-fn say_totals(r: Sums) {
+fn say_totals<W: Write>(output: &mut W, r: Sums) {
     if r.refusal != 0 {
-        records::say_refused(r.refusal, 0);
+        records::say_refused(output, r.refusal, 0);
         return;
     }
-    say_number(b"ok arrived ", r.arrived);
-    say_number(b" left ", r.left);
-    say_number(b" stored ", r.stored);
-    say_number(b" partsteps ", r.partsteps);
+    say_number(output, b"ok arrived ", r.arrived);
+    say_number(output, b" left ", r.left);
+    say_number(output, b" stored ", r.stored);
+    say_number(output, b" partsteps ", r.partsteps);
 }
 
-fn play_totals(f: Facility, rest: &[u8]) {
+fn play_totals<W: Write>(output: &mut W, f: Facility, rest: &[u8]) {
     let more = text::next_word(rest, 0);
     if more.start < more.end {
-        say_not_a_call();
+        say_not_a_call(output);
         return;
     }
-    say_totals(facility::totals(f));
+    say_totals(output, facility::totals(f));
 }
 
 // A buffer filled with one byte, so that what a writing leaves alone can be told.
@@ -151,76 +151,79 @@ fn filled() -> [u8; 65536]
 }
 
 // The bytes written, or the refusal; and where a byte is altered that had to stay.
-fn say_written(done: Written, buffer: &[u8], at: usize) {
+fn say_written<W: Write>(output: &mut W, done: Written, buffer: &[u8], at: usize) {
     match done {
         Written::Count(n) => {
-            say(b"ok ");
-            records::say_part(buffer, at, n);
-            records::say_altered(buffer, 0xAA, at, n);
+            say(output, b"ok ");
+            records::say_part(output, buffer, at, n);
+            records::say_altered(output, buffer, 0xAA, at, n);
         }
         Written::Refused(number) => {
-            records::say_refused(number, 0);
-            records::say_altered(buffer, 0xAA, 0, 0);
+            records::say_refused(output, number, 0);
+            records::say_altered(output, buffer, 0xAA, 0, 0);
         }
     }
 }
 
-fn write(f: Facility, is_road: bool, buffer: &mut [u8], at: usize) {
-    if is_road {
-        let done = facility::write_road(f, buffer, at);
-        say_written(done, buffer, at);
+fn write<W: Write>(output: &mut W, f: Facility, is_road: bool, buffer: &mut [u8], at: usize) {
+    let done = if is_road {
+        facility::write_road(f, buffer, at)
     } else {
-        let done = facility::write_period(f, buffer, at);
-        say_written(done, buffer, at);
-    }
+        facility::write_period(f, buffer, at)
+    };
+    say_written(output, done, buffer, at);
 }
 
-fn play_writing(f: Facility, is_road: bool, rest: &[u8]) {
+fn play_writing<W: Write>(output: &mut W, f: Facility, is_road: bool, rest: &[u8]) {
     let given = records::up_to_two(rest, 65536, 0);
     let room = given.first as usize;
-    let at = given.second as usize;
     if !given.fine {
-        say_not_a_call();
+        say_not_a_call(output);
         return;
     }
     let mut buffer = filled();
     if 65536 < room {
-        say(b"room above 65536");
+        say(output, b"room above 65536");
         return;
     }
-    write(f, is_road, &mut buffer[0..room], at);
+    write(
+        output,
+        f,
+        is_road,
+        &mut buffer[..room],
+        given.second as usize,
+    );
 }
 
 // A call that leaves the facility as it is.
-fn play_reading(call: Call, f: Facility, rest: &[u8]) {
+fn play_reading<W: Write>(output: &mut W, call: Call, f: Facility, rest: &[u8]) {
     match call {
-        Call::Report => play_report(f, rest),
-        Call::Totals => play_totals(f, rest),
-        Call::WriteRoad => play_writing(f, true, rest),
-        Call::WritePeriod => play_writing(f, false, rest),
-        _ => say_not_a_call(),
+        Call::Report => play_report(output, f, rest),
+        Call::Totals => play_totals(output, f, rest),
+        Call::WriteRoad => play_writing(output, f, true, rest),
+        Call::WritePeriod => play_writing(output, f, false, rest),
+        _ => say_not_a_call(output),
     }
 }
 
 // Plays a call, and prints its answer.
-fn play(record: &[u8], f: Facility) -> Facility {
+fn play<W: Write>(output: &mut W, record: &[u8], f: Facility) -> Facility {
     let name = text::next_word(record, 0);
-    let from = name.start;
-    let to = name.end;
-    let call = call_of(&record[from..to]);
+    let call = call_of(&record[name.start..name.end]);
+    let rest = &record[name.end..];
     match call {
-        Call::Lay => play_sheet(f, true, &record[to..]),
-        Call::Take => play_sheet(f, false, &record[to..]),
-        Call::Run => play_run(f, &record[to..]),
+        Call::Lay => play_sheet(output, f, true, rest),
+        Call::Take => play_sheet(output, f, false, rest),
+        Call::Run => play_run(output, f, rest),
         _ => {
-            play_reading(call, f, &record[to..]);
+            play_reading(output, call, f, rest);
             f
         }
     }
 }
 
 // Plays the call of a line.
-fn play_line(line: &[u8], next: Record, f: Facility) -> Facility {
+fn play_line<W: Write>(output: &mut W, line: &[u8], next: Record, f: Facility) -> Facility {
     let from = next.start;
     let to = next.end;
     if line.len() < to {
@@ -229,25 +232,32 @@ fn play_line(line: &[u8], next: Record, f: Facility) -> Facility {
     if to < from {
         return f;
     }
-    records::say_record(&line[from..to]);
-    let g = play(&line[from..to], f);
-    say(b"\n");
+    records::say_record(output, &line[from..to]);
+    let g = play(output, &line[from..to], f);
+    say(output, b"\n");
     g
 }
 
-fn main() {
-    let mut chunk = io::buffer();
+fn main(rt: HostRuntime) {
+    let mut file = rt.stdin();
+    let mut output = rt.stdout();
+    let mut errors = rt.stderr();
+    let mut chunk = input::buffer();
     let mut line = input::line_room();
-    let mut next = records::next(records::start(), &mut chunk, &mut line);
-    let laid = facility::lay(b"");
-    let mut f = laid.facility;
-    let mut turns = u64::MAX;
-    while turns > 0 {
+    let mut next = records::start();
+    let mut f = facility::lay(b"").facility;
+    for _ in 0..u64::MAX {
+        next = records::next(
+            &mut file,
+            &mut output,
+            &mut errors,
+            next,
+            &mut chunk,
+            &mut line,
+        );
         if next.end <= next.start {
             return;
         }
-        f = play_line(&line, next, f);
-        next = records::next(next, &mut chunk, &mut line);
-        turns -= 1;
+        f = play_line(&mut output, &line, next, f);
     }
 }

@@ -1,59 +1,58 @@
 // A study from one file to another in the other layout of its period sheets. Of a study that does not convert no byte is written, and one
 // line with its refusal goes to the file for complaints.
-use convert::{Answer, Way};
+#![tactic(auto)]
 
-// The program that leads that way, before what it complains of.
-fn say_program(way: Way, complaints: i32) {
+use convert::{Answer, Way};
+use std::io::{Read, Write};
+
+// The program that leads that way, which stands before what it complains of.
+fn program(way: Way) -> &'static str {
     match way {
-        Way::ToSecond => {
-            io::write_all(complaints, b"study_from_first: ");
-        }
-        Way::ToFirst => {
-            io::write_all(complaints, b"study_to_first: ");
-        }
+        Way::ToSecond => "study_from_first",
+        Way::ToFirst => "study_to_first",
     }
 }
 
-fn complain(way: Way, complaints: i32, what: &[u8]) {
-    say_program(way, complaints);
-    io::write_all(complaints, what);
-    io::write_all(complaints, b"\n");
+fn complain<W: Write>(way: Way, complaints: &mut W, what: &str) {
+    let program = program(way);
+    let _ = writeln!(complaints, "{program}: {what}");
 }
 
-fn complain_of_refusal(complaints: i32, number: u8, place: usize) {
-    io::write_all(complaints, b"refused ");
-    io::print_decimal(complaints, number as u64);
-    io::write_all(complaints, b" ");
-    io::print_decimal(complaints, place as u64);
-    io::write_all(complaints, b"\n");
+fn complain_of_refusal<W: Write>(complaints: &mut W, number: u8, place: usize) {
+    let _ = writeln!(complaints, "refused {number} {place}");
 }
 
 // Writes the converted study, which takes so many bytes of the target.
-fn write_study(way: Way, output: i32, complaints: i32, target: &[u8], count: usize) {
+fn write_study<W: Write, E: Write>(
+    way: Way,
+    output: &mut W,
+    complaints: &mut E,
+    target: &[u8],
+    count: usize,
+) {
     if count <= target.len() {
-        if io::write_all(output, &target[0..count]) {
+        if output.write_all(&target[..count]).is_ok() {
             return;
         }
     }
-    complain(way, complaints, b"cannot write the study");
+    complain(way, complaints, "cannot write the study");
 }
 
 // Turns a study of one layout into the other. The buffers have to hold the study before and after, or as much of it as its refusal takes.
-pub fn turn(
+pub fn turn<R: Read, W: Write, E: Write>(
     way: Way,
-    source: i32,
-    output: i32,
-    complaints: i32,
+    source: &mut R,
+    output: &mut W,
+    complaints: &mut E,
     study: &mut [u8],
     target: &mut [u8],
 ) {
     let got = input::read_to_end(source, study);
-    let n = got.length;
     if got.failed {
-        complain(way, complaints, b"cannot read the study");
+        complain(way, complaints, "cannot read the study");
         return;
     }
-    let answer = convert::convert(way, &study[0..n], target);
+    let answer = convert::convert(way, &study[..got.length], target);
     match answer {
         Answer::Count(count) => write_study(way, output, complaints, target, count),
         Answer::Refused { number, offset } => complain_of_refusal(complaints, number, offset),

@@ -1,15 +1,15 @@
 // Reads a study from standard input and prints its listing, or the one line of its refusal.
+#![tactic(auto)]
 
 // The buffer serves every study: the refusal of a longer one is decided within its first 32,300 bytes.
-fn main() {
-    let mut buffer = io::large_buffer();
-    let got = input::read_to_end(0, &mut buffer);
-    let length = got.length;
+fn main(rt: HostRuntime) {
+    let mut buffer = input::large_buffer();
+    let got = input::read_to_end(&mut rt.stdin(), &mut buffer);
     if got.failed {
-        io::write_all(2, b"forecast: cannot read the study\n");
+        let _ = eprintln!(rt; "forecast: cannot read the study");
         return;
     }
-    if !listing::print_study(&buffer[0..length]) {
-        io::write_all(2, b"forecast: cannot write the listing\n");
+    if !listing::print_study(&mut rt.stdout(), &buffer[..got.length]) {
+        let _ = eprintln!(rt; "forecast: cannot write the listing");
     }
 }

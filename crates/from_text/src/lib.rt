@@ -1,8 +1,11 @@
 // From text to bytes. On bad text one line goes to the file for complaints, and no byte is written.
+#![tactic(auto)]
+
 ghost use Rattle.std.specs.Prelude.{◌+◌, ◌≤◌, length};
 
 use input::{Kind, Line};
 use numbers::Written;
+use std::io::{Read, Write};
 use text::Numeral;
 
 // The bytes put so far, and whether the text goes on.
@@ -23,35 +26,29 @@ fn put(out: &mut [u8], at: usize, value: u32) -> usize
     }
 }
 
-fn complain(errors: i32, what: &[u8]) {
-    io::write_all(errors, b"study_from_text: ");
-    io::write_all(errors, what);
-    io::write_all(errors, b"\n");
+fn complain<W: Write>(errors: &mut W, what: &str) {
+    let _ = writeln!(errors, "study_from_text: {what}");
 }
 
 // Of a word that starts at a place of a line, counted from 0.
-fn complain_of_word(errors: i32, line: u64, place: usize) {
-    io::write_all(errors, b"study_from_text: line ");
-    io::print_decimal(errors, line);
-    io::write_all(errors, b", column ");
-    io::print_decimal(errors, column(place));
-    io::write_all(errors, b": not a decimal number up to 4294967295\n");
+fn complain_of_word<W: Write>(errors: &mut W, line: u64, place: usize) {
+    let column = column(place);
+    let _ = writeln!(
+        errors,
+        "study_from_text: line {line}, column {column}: not a decimal number up to 4294967295"
+    );
 }
 
 // Of a line that does not fit, or whose bytes do not.
-fn complain_of_room(errors: i32, line: u64, what: &[u8], room: usize) {
-    io::write_all(errors, b"study_from_text: line ");
-    io::print_decimal(errors, line);
-    io::write_all(errors, what);
-    io::print_decimal(errors, room as u64);
-    io::write_all(errors, b" bytes\n");
+fn complain_of_room<W: Write>(errors: &mut W, line: u64, what: &str, room: usize) {
+    let _ = writeln!(errors, "study_from_text: line {line}{what}{room} bytes");
 }
 
-fn complain_of_bytes(errors: i32, line: u64, room: usize) {
+fn complain_of_bytes<W: Write>(errors: &mut W, line: u64, room: usize) {
     complain_of_room(
         errors,
         line,
-        b": up to here the numbers take more than ",
+        ": up to here the numbers take more than ",
         room,
     );
 }
@@ -65,7 +62,13 @@ fn column(place: usize) -> u64 {
 }
 
 // Puts the bytes of a line's numbers behind those before, up to a word that is no number or bytes that do not fit, of which it complains.
-fn put_line(errors: i32, number: u64, line: &[u8], out: &mut [u8], start: usize) -> Done
+fn put_line<W: Write>(
+    errors: &mut W,
+    number: u64,
+    line: &[u8],
+    out: &mut [u8],
+    start: usize,
+) -> Done
     requires { start ≤ length out.old }
     ensures { result.used ≤ length out.new }
 {
@@ -73,12 +76,10 @@ fn put_line(errors: i32, number: u64, line: &[u8], out: &mut [u8], start: usize)
     let mut at: usize = 0;
     while at < line.len() {
         let w = text::next_word(line, at);
-        let from = w.start;
-        let to = w.end;
-        if to <= from {
+        if w.end <= w.start {
             return Done { used, more: true };
         }
-        match text::number(&line[from..to]) {
+        match text::number(&line[w.start..w.end]) {
             Numeral::Value(value) => {
                 let n = put(out, used, value);
                 if n == 0 {
@@ -88,11 +89,11 @@ fn put_line(errors: i32, number: u64, line: &[u8], out: &mut [u8], start: usize)
                 used += n;
             }
             Numeral::Other => {
-                complain_of_word(errors, number, from);
+                complain_of_word(errors, number, w.start);
                 return Done { used, more: false };
             }
         }
-        at = to;
+        at = w.end;
     }
     Done { used, more: true }
 }
@@ -111,20 +112,20 @@ fn mark(line: &[u8], number: u64) -> usize
     if is_mark { 3 } else { 0 }
 }
 
-fn write_bytes(output: i32, errors: i32, bytes: &[u8]) {
+fn write_bytes<W: Write, E: Write>(output: &mut W, errors: &mut E, bytes: &[u8]) {
     if bytes.len() == 0 {
-        complain(errors, b"there is no number in the text");
+        complain(errors, "there is no number in the text");
         return;
     }
-    if !io::write_all(output, bytes) {
-        complain(errors, b"cannot write the bytes");
+    if output.write_all(bytes).is_err() {
+        complain(errors, "cannot write the bytes");
     }
 }
 
 // Takes what a read of a line gave; at the text's end its bytes are written.
-fn take_line(
-    output: i32,
-    errors: i32,
+fn take_line<W: Write, E: Write>(
+    output: &mut W,
+    errors: &mut E,
     number: u64,
     got: Line,
     line: &[u8],
@@ -135,34 +136,36 @@ fn take_line(
     ensures { result.used ≤ length out.new }
 {
     let n = got.length;
-    let kind = got.kind;
-    match kind {
+    match got.kind {
         Kind::Whole => {
-            let from = mark(&line[0..n], number);
+            let from = mark(&line[..n], number);
             return put_line(errors, number, &line[from..n], out, used);
         }
-        Kind::Long => complain_of_room(errors, number, b": longer than ", line.len()),
-        Kind::End => write_bytes(output, errors, &out[0..used]),
-        Kind::Failed => complain(errors, b"cannot read the text"),
+        Kind::Long => complain_of_room(errors, number, ": longer than ", line.len()),
+        Kind::End => write_bytes(output, errors, &out[..used]),
+        Kind::Failed => complain(errors, "cannot read the text"),
     }
     Done { used, more: false }
 }
 
 // Turns the text of a study, or of any row of numbers, into its bytes. A line has to fit its buffer, and the bytes theirs.
-pub fn turn(source: i32, output: i32, errors: i32, line: &mut [u8], out: &mut [u8]) {
-    let mut chunk = io::buffer();
+pub fn turn<R: Read, W: Write, E: Write>(
+    source: &mut R,
+    output: &mut W,
+    errors: &mut E,
+    line: &mut [u8],
+    out: &mut [u8],
+) {
+    let mut chunk = input::buffer();
     let mut s = input::start();
     let mut used: usize = 0;
-    let mut number: u64 = 0;
-    while number < u64::MAX {
-        number += 1;
+    for before in 0..u64::MAX {
         let got = input::next_line(source, s, &mut chunk, line);
-        let done = take_line(output, errors, number, got, line, out, used);
+        let done = take_line(output, errors, before + 1, got, line, out, used);
         if !done.more {
             return;
         }
         used = done.used;
-        let after = got.source;
-        s = after;
+        s = got.source;
     }
 }

@@ -1,11 +1,14 @@
 // Plays planning sheets from standard input, one a line: a name, the sheet's bytes in hexadecimal, `carry`, and the carryover: numbers with
 // commas between them, `-` for none, or `=` for what the sheet before left. Prints each with what it gives: every f64 as the 16 hexadecimal
 // digits of its bits, and a line for each section. A carryover has at most 65 numbers; a record that is none leaves none.
+#![tactic(auto)]
+
 ghost use Rattle.std.specs.Prelude.{◌≤◌, ◌<◌, length};
 
 use records::{Record, say, say_number};
 use sections::Answer;
 use solving::{Done, Service};
+use std::io::Write;
 use text::Numeral;
 
 // How many numbers a list gave; one that is no list of numbers, or has too many, is not fine.
@@ -65,31 +68,31 @@ fn unlist(list: &[u8], out: &mut [u32]) -> Listed
 }
 
 // The bits of an f64.
-fn put_bits(x: f64) {
+fn put_bits<W: Write>(output: &mut W, x: f64) {
     if x != x {
-        say(b" nan");
+        say(output, b" nan");
         return;
     }
-    say(b" ");
-    io::print_hex(1, f64::to_bits(x), 16);
+    let bits = x.to_bits();
+    let _ = write!(output, " {bits:016x}");
 }
 
-fn put_answer(a: Answer) {
+fn put_answer<W: Write>(output: &mut W, a: Answer) {
     match a {
         Answer::Free { speed, density } => {
-            say(b" free");
-            put_bits(speed);
-            put_bits(density);
+            say(output, b" free");
+            put_bits(output, speed);
+            put_bits(output, density);
         }
         Answer::Slowed {
             under,
             speed,
             density,
         } => {
-            say(b" slowed");
-            put_bits(under);
-            put_bits(speed);
-            put_bits(density);
+            say(output, b" slowed");
+            put_bits(output, under);
+            put_bits(output, speed);
+            put_bits(output, density);
         }
         Answer::Queued {
             under,
@@ -97,85 +100,70 @@ fn put_answer(a: Answer) {
             speed,
             density,
         } => {
-            say(b" queued");
-            put_bits(under);
-            put_bits(over);
-            put_bits(speed);
-            put_bits(density);
+            say(output, b" queued");
+            put_bits(output, under);
+            put_bits(output, over);
+            put_bits(output, speed);
+            put_bits(output, density);
         }
     }
 }
 
 // A line for each of the first n answers.
-fn put_answers(answers: [Done; 64], n: usize) {
-    let mut i: usize = 0;
-    while i < 64 {
-        if n <= i {
-            return;
-        }
-        say_number(b"  ", i as u64 + 1);
-        let done = answers[i];
-        let a = done.answer;
-        put_answer(a);
-        say(b"\n");
-        i += 1;
+fn put_answers<W: Write>(output: &mut W, answers: &[Done; 64], n: usize) {
+    for i in 0..n.min(64) {
+        say_number(output, b"  ", i as u64 + 1);
+        put_answer(output, answers[i].answer);
+        say(output, b"\n");
     }
 }
 
-fn put_letter(s: Service) {
+fn put_letter<W: Write>(output: &mut W, s: Service) {
     match s {
-        Service::A => say(b"A"),
-        Service::B => say(b"B"),
-        Service::C => say(b"C"),
-        Service::D => say(b"D"),
-        Service::E => say(b"E"),
-        Service::F => say(b"F"),
+        Service::A => say(output, b"A"),
+        Service::B => say(output, b"B"),
+        Service::C => say(output, b"C"),
+        Service::D => say(output, b"D"),
+        Service::E => say(output, b"E"),
+        Service::F => say(output, b"F"),
     }
-}
-
-fn wide(x: u32) -> u64 {
-    x as u64
 }
 
 // The numbers with commas between them, or `-` for none.
-fn put_list(xs: &[u32]) {
+fn put_list<W: Write>(output: &mut W, xs: &[u32]) {
     if xs.len() == 0 {
-        say(b"-");
+        say(output, b"-");
         return;
     }
-    let mut i: usize = 0;
-    while i < xs.len() {
+    for (i, x) in xs.iter().enumerate() {
         if 0 < i {
-            say(b",");
+            say(output, b",");
         }
-        io::print_decimal(1, wide(xs[i]));
-        i += 1;
+        let _ = write!(output, "{x}");
     }
 }
 
-fn put_facility(used: usize, density: f64, letter: Service) {
-    say_number(b"ok used ", used as u64);
-    say(b" density");
-    put_bits(density);
-    say(b" letter ");
-    put_letter(letter);
+fn put_facility<W: Write>(output: &mut W, used: usize, density: f64, letter: Service) {
+    say_number(output, b"ok used ", used as u64);
+    say(output, b" density");
+    put_bits(output, density);
+    say(output, b" letter ");
+    put_letter(output, letter);
 }
 
 // What a sheet gives with a carryover, and the carryover after it.
-fn put_plan(bytes: &[u8], carryover: &mut [u32]) {
+fn put_plan<W: Write>(output: &mut W, bytes: &[u8], carryover: &mut [u32]) {
     let got = planning::plan(bytes, carryover);
     if got.refusal != 0 {
-        records::say_refused(got.refusal, got.offset);
-        say(b"\n");
+        records::say_refused(output, got.refusal, got.offset);
+        say(output, b"\n");
         return;
     }
-    let letter = got.letter;
-    put_facility(got.used, got.density, letter);
-    say(b" carry ");
-    put_list(carryover);
-    say(b"\n");
-    let answers = got.answers;
-    put_answers(answers, carryover.len());
+    put_facility(output, got.used, got.density, got.letter);
+    say(output, b" carry ");
+    put_list(output, carryover);
+    say(output, b"\n");
+    put_answers(output, &got.answers, carryover.len());
 }
 
 // The carryover of the one word that is left of a record, put at the start of the slice; `=` leaves it as the last sheet left it.
@@ -184,74 +172,81 @@ fn take_carryover(rest: &[u8], slice: &mut [u32], count: usize) -> Listed
     ensures { result.count ≤ length slice.new }
 {
     let list = records::only_word(rest);
-    let start = list.start;
-    let end = list.end;
-    if text::same(&rest[start..end], b"=") {
+    let word = &rest[list.start..list.end];
+    if text::same(word, b"=") {
         return Listed { fine: true, count };
     }
-    if text::same(&rest[start..end], b"-") {
+    if text::same(word, b"-") {
         return Listed {
             fine: true,
             count: 0,
         };
     }
-    unlist(&rest[start..end], slice)
+    unlist(word, slice)
 }
 
 // Plays a sheet with a carryover.
-fn play_sheet(word: &[u8], carryover: &mut [u32]) {
-    let mut bytes = io::large_buffer();
+fn play_sheet<W: Write>(output: &mut W, word: &[u8], carryover: &mut [u32]) {
+    let mut bytes = input::large_buffer();
     let given = records::bytes_of(word, &mut bytes);
-    let n = given.count;
-    say(b" ");
-    put_list(carryover);
-    say(b" -> ");
+    say(output, b" ");
+    put_list(output, carryover);
+    say(output, b" -> ");
     if !given.fine {
-        say(b"not a sheet's bytes\n");
+        say(output, b"not a sheet's bytes\n");
         return;
     }
-    put_plan(&bytes[0..n], carryover);
+    put_plan(output, &bytes[..given.count], carryover);
 }
 
 // Plays a sheet with the carryover that the rest of its record says. How many sections the carryover has after it.
-fn play_with(word: &[u8], rest: &[u8], slice: &mut [u32], count: usize) -> usize
+fn play_with<W: Write>(
+    output: &mut W,
+    word: &[u8],
+    rest: &[u8],
+    slice: &mut [u32],
+    count: usize,
+) -> usize
     requires { count ≤ length slice.old }
     ensures { result ≤ length slice.new }
 {
     let given = take_carryover(rest, slice, count);
     let k = given.count;
     if !given.fine {
-        records::say_record(rest);
-        say(b"not a record\n");
+        records::say_record(output, rest);
+        say(output, b"not a record\n");
         return 0;
     }
-    play_sheet(word, &mut slice[0..k]);
+    play_sheet(output, word, &mut slice[..k]);
     k
 }
 
 // Plays a record: a name, bytes, `carry` and a carryover.
-fn play(record: &[u8], slice: &mut [u32], count: usize) -> usize
+fn play<W: Write>(output: &mut W, record: &[u8], slice: &mut [u32], count: usize) -> usize
     requires { count ≤ length slice.old }
     ensures { result ≤ length slice.new }
 {
     let name = text::next_word(record, 0);
     let hex = text::next_word(record, name.end);
-    let a = hex.start;
-    let b = hex.end;
-    let mark = text::next_word(record, b);
-    let c = mark.start;
-    let d = mark.end;
-    say(&record[0..d]);
-    if text::same(&record[c..d], b"carry") {
-        return play_with(&record[a..b], &record[d..], slice, count);
+    let mark = text::next_word(record, hex.end);
+    let rest = &record[mark.end..];
+    say(output, &record[..mark.end]);
+    if text::same(&record[mark.start..mark.end], b"carry") {
+        return play_with(output, &record[hex.start..hex.end], rest, slice, count);
     }
-    records::say_record(&record[d..]);
-    say(b"not a record\n");
+    records::say_record(output, rest);
+    say(output, b"not a record\n");
     0
 }
 
 // Plays the record of a line.
-fn play_line(line: &[u8], next: Record, slice: &mut [u32], count: usize) -> usize
+fn play_line<W: Write>(
+    output: &mut W,
+    line: &[u8],
+    next: Record,
+    slice: &mut [u32],
+    count: usize,
+) -> usize
     requires { count ≤ length slice.old }
     ensures { result ≤ length slice.new }
 {
@@ -263,22 +258,30 @@ fn play_line(line: &[u8], next: Record, slice: &mut [u32], count: usize) -> usiz
     if to < from {
         return 0;
     }
-    play(&line[from..to], slice, count)
+    play(output, &line[from..to], slice, count)
 }
 
-fn main() {
-    let mut chunk = io::buffer();
+fn main(rt: HostRuntime) {
+    let mut file = rt.stdin();
+    let mut output = rt.stdout();
+    let mut errors = rt.stderr();
+    let mut chunk = input::buffer();
     let mut line = input::line_room();
-    let mut next = records::next(records::start(), &mut chunk, &mut line);
+    let mut next = records::start();
     let mut slice = [0u32; 65];
     let mut count: usize = 0;
-    let mut turns = u64::MAX;
-    while turns > 0 {
+    for _ in 0..u64::MAX {
+        next = records::next(
+            &mut file,
+            &mut output,
+            &mut errors,
+            next,
+            &mut chunk,
+            &mut line,
+        );
         if next.end <= next.start {
             return;
         }
-        count = play_line(&line, next, &mut slice, count);
-        next = records::next(next, &mut chunk, &mut line);
-        turns -= 1;
+        count = play_line(&mut output, &line, next, &mut slice, count);
     }
 }

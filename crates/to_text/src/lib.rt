@@ -1,7 +1,10 @@
 // From bytes to text: a study's numbers in decimal, one to a line, each with a comment that names it. Of a study that is refused the
 // fields before the bad one, and a comment on that.
+#![tactic(auto)]
+
 use numbers::{Number, Range};
 use sheets::{Layout, SheetReading};
+use std::io::{Read, Write};
 
 // A refusal's number, 0 for none, and its place in the bytes.
 #[derive(Clone, Copy)]
@@ -21,49 +24,54 @@ struct Next {
     fine: bool,
 }
 
-fn say_road_field(output: i32, k: usize) -> bool {
+// Answers whether all of it was written.
+fn say<W: Write>(output: &mut W, what: &str) -> bool {
+    output.write_all(what.as_bytes()).is_ok()
+}
+
+fn say_road_field<W: Write>(output: &mut W, k: usize) -> bool {
     match k {
-        0 => io::write_all(output, b"NS, segments"),
-        1 => io::write_all(output, b"KJ, jam density"),
-        2 => io::write_all(output, b"KC, density at capacity"),
-        _ => io::write_all(output, b"A, capacity drop in percent"),
+        0 => say(output, "NS, segments"),
+        1 => say(output, "KJ, jam density"),
+        2 => say(output, "KC, density at capacity"),
+        _ => say(output, "A, capacity drop in percent"),
     }
 }
 
-fn say_segment_field(output: i32, j: usize) -> bool {
+fn say_segment_field<W: Write>(output: &mut W, j: usize) -> bool {
     match j {
-        0 => io::write_all(output, b": L, length in feet"),
-        1 => io::write_all(output, b": N, lanes"),
-        2 => io::write_all(output, b": V, free-flow speed in mi/h"),
-        3 => io::write_all(output, b": C, capacity"),
-        4 => io::write_all(output, b": R, on-ramp capacity"),
-        5 => io::write_all(output, b": s, off-ramp share in thousandths"),
-        _ => io::write_all(output, b": F, off-ramp capacity"),
+        0 => say(output, ": L, length in feet"),
+        1 => say(output, ": N, lanes"),
+        2 => say(output, ": V, free-flow speed in mi/h"),
+        3 => say(output, ": C, capacity"),
+        4 => say(output, ": R, on-ramp capacity"),
+        5 => say(output, ": s, off-ramp share in thousandths"),
+        _ => say(output, ": F, off-ramp capacity"),
     }
 }
 
-fn say_period_field(output: i32, k: usize) -> bool {
+fn say_period_field<W: Write>(output: &mut W, k: usize) -> bool {
     match k {
-        0 => io::write_all(output, b"NS, segments"),
-        1 => io::write_all(output, b"mainline demand"),
-        _ => io::write_all(output, b"X, exit capacity"),
+        0 => say(output, "NS, segments"),
+        1 => say(output, "mainline demand"),
+        _ => say(output, "X, exit capacity"),
     }
 }
 
-fn say_entry_field(output: i32, j: usize) -> bool {
+fn say_entry_field<W: Write>(output: &mut W, j: usize) -> bool {
     match j {
-        0 => io::write_all(output, b": ramp demand"),
-        1 => io::write_all(output, b": meter rate"),
-        _ => io::write_all(output, b": open lanes"),
+        0 => say(output, ": ramp demand"),
+        1 => say(output, ": meter rate"),
+        _ => say(output, ": open lanes"),
     }
 }
 
-fn say_segment(output: i32, i: usize) -> bool {
-    io::write_all(output, b"segment ") & io::print_decimal(output, i as u64)
+fn say_segment<W: Write>(output: &mut W, i: usize) -> bool {
+    write!(output, "segment {i}").is_ok()
 }
 
 // The name of the field at place k of the road, or of a period.
-fn say_field(output: i32, sheet: u32, k: usize) -> bool {
+fn say_field<W: Write>(output: &mut W, sheet: u32, k: usize) -> bool {
     if sheet == 0 {
         if k < 4 {
             return say_road_field(output, k);
@@ -77,23 +85,19 @@ fn say_field(output: i32, sheet: u32, k: usize) -> bool {
 }
 
 // The comment before a sheet.
-fn say_sheet(output: i32, sheet: u32) -> bool {
+fn say_sheet<W: Write>(output: &mut W, sheet: u32) -> bool {
     if sheet == 0 {
-        return io::write_all(output, b"# road\n");
+        return say(output, "# road\n");
     }
-    io::write_all(output, b"# period ")
-        & io::print_decimal(output, sheet as u64)
-        & io::write_all(output, b"\n")
+    writeln!(output, "# period {sheet}").is_ok()
 }
 
 // The sheet of a field, before its name.
-fn say_sheet_of(output: i32, sheet: u32) -> bool {
+fn say_sheet_of<W: Write>(output: &mut W, sheet: u32) -> bool {
     if sheet == 0 {
-        return io::write_all(output, b"road: ");
+        return say(output, "road: ");
     }
-    io::write_all(output, b"period ")
-        & io::print_decimal(output, sheet as u64)
-        & io::write_all(output, b": ")
+    write!(output, "period {sheet}: ").is_ok()
 }
 
 fn layout_of(sheet: u32, segments: u32) -> Layout {
@@ -108,15 +112,6 @@ fn after(x: usize, most: usize) -> usize {
     if x < most { x + 1 } else { most }
 }
 
-// A sum that stops at the largest number.
-fn sum(a: usize, b: usize) -> usize {
-    if a <= usize::MAX - b {
-        a + b
-    } else {
-        usize::MAX
-    }
-}
-
 fn refused_at(number: u8, place: usize) -> Refusal {
     Refusal { number, place }
 }
@@ -126,7 +121,7 @@ fn sheet_after(sheet: u32) -> u32 {
 }
 
 // Goes on behind a field, to the next sheet where its own is at its end.
-fn step(output: i32, f: Next, value: u32, end: usize, is_last: bool) -> Next {
+fn step<W: Write>(output: &mut W, f: Next, value: u32, end: usize, is_last: bool) -> Next {
     let segments = if (f.sheet == 0) & (f.place == 0) {
         value
     } else {
@@ -154,24 +149,18 @@ fn step(output: i32, f: Next, value: u32, end: usize, is_last: bool) -> Next {
 }
 
 // Writes a field: its number, and its name in a comment.
-fn say_number(output: i32, f: Next, value: u32) -> bool {
-    io::print_decimal(output, value as u64)
-        & io::write_all(output, b" # ")
-        & say_field(output, f.sheet, f.place)
-        & io::write_all(output, b"\n")
+fn say_number<W: Write>(output: &mut W, f: Next, value: u32) -> bool {
+    write!(output, "{value} # ").is_ok() & say_field(output, f.sheet, f.place) & say(output, "\n")
 }
 
-fn say_next(output: i32, bytes: &[u8], f: Next) -> Next {
+fn say_next<W: Write>(output: &mut W, bytes: &[u8], f: Next) -> Next {
     match numbers::read(bytes, f.at) {
         Number::Value { value, next } => {
             let said = say_number(output, f, value);
             let g = step(output, f, value, next, bytes.len() <= next);
             Next {
-                at: g.at,
-                sheet: g.sheet,
-                place: g.place,
-                segments: g.segments,
                 fine: g.fine & said,
+                ..g
             }
         }
         Number::Refused(_) => f,
@@ -179,7 +168,7 @@ fn say_next(output: i32, bytes: &[u8], f: Next) -> Next {
 }
 
 // Writes the fields before a place of the bytes: a study has at most 4 + 7 × 64 and 96 × (3 + 3 × 64) of them.
-fn say_fields(output: i32, bytes: &[u8], stop: usize) -> Next {
+fn say_fields<W: Write>(output: &mut W, bytes: &[u8], stop: usize) -> Next {
     let mut f = Next {
         at: 0,
         sheet: 0,
@@ -187,71 +176,58 @@ fn say_fields(output: i32, bytes: &[u8], stop: usize) -> Next {
         segments: 0,
         fine: say_sheet(output, 0),
     };
-    let mut i: u32 = 0;
-    while i < 19172 {
+    for _ in 0..19172 {
         if stop <= f.at {
             return f;
         }
         f = say_next(output, bytes, f);
-        i += 1;
     }
     f
 }
 
-fn say_reason(output: i32, number: u8) -> bool {
+fn say_reason<W: Write>(output: &mut W, number: u8) -> bool {
     match number {
-        1 => io::write_all(output, b", the bytes end before the number does: "),
-        2 => io::write_all(
+        1 => say(output, ", the bytes end before the number does: "),
+        2 => say(
             output,
-            b", a fifth group has its top bit set or is above 15: ",
+            ", a fifth group has its top bit set or is above 15: ",
         ),
-        3 => io::write_all(
+        3 => say(
             output,
-            b", a number of two or more groups ends in a zero group: ",
+            ", a number of two or more groups ends in a zero group: ",
         ),
-        4 => io::write_all(output, b", a field is outside its range: "),
-        _ => io::write_all(output, b", a period sheet's NS isn't the road's: "),
+        4 => say(output, ", a field is outside its range: "),
+        _ => say(output, ", a period sheet's NS isn't the road's: "),
     }
 }
 
-fn wide(b: u8) -> u64 {
-    b as u64
-}
-
 // The bytes of a number that cannot be read, at most five, in hexadecimal.
-fn say_groups(output: i32, bytes: &[u8]) -> bool {
-    let mut fine = io::write_all(output, b"the bytes ");
-    let mut i: usize = 0;
-    while i < 5 {
-        if bytes.len() <= i {
+fn say_groups<W: Write>(output: &mut W, bytes: &[u8]) -> bool {
+    let mut fine = say(output, "the bytes ");
+    for b in bytes.iter().take(5) {
+        fine &= write!(output, "{b:02x}").is_ok();
+        if *b < 128 {
             return fine;
         }
-        fine = io::print_hex(output, wide(bytes[i]), 2) & fine;
-        if bytes[i] < 128 {
-            return fine;
-        }
-        i += 1;
     }
     fine
 }
 
 // What was read at a place: a number, or bytes that are none.
-fn say_read(output: i32, bytes: &[u8], at: usize) -> bool {
+fn say_read<W: Write>(output: &mut W, bytes: &[u8], at: usize) -> bool {
     if bytes.len() <= at {
-        return io::write_all(output, b"no byte");
+        return say(output, "no byte");
     }
     match numbers::read(bytes, at) {
-        Number::Value { value, next: _ } => io::print_decimal(output, value as u64),
+        Number::Value { value, next: _ } => write!(output, "{value}").is_ok(),
         Number::Refused(_) => say_groups(output, &bytes[at..]),
     }
 }
 
-fn say_range(output: i32, range: Range) -> bool {
-    io::write_all(output, b", its range is ")
-        & io::print_decimal(output, range.low as u64)
-        & io::write_all(output, b" to ")
-        & io::print_decimal(output, range.high as u64)
-        & io::write_all(output, b"\n")
+fn say_range<W: Write>(output: &mut W, range: Range) -> bool {
+    let low = range.low;
+    let high = range.high;
+    writeln!(output, ", its range is {low} to {high}").is_ok()
 }
 
 // The range of a field, a period's by the road. No sheet has a place past 451.
@@ -267,92 +243,94 @@ fn range_of(f: Next, road: &[u32; 452]) -> Range {
 }
 
 // A comment on the field that is refused: the refusal with its place, the field, what was read, its range.
-fn say_refused(output: i32, bytes: &[u8], road: &[u32; 452], f: Next, number: u8) -> bool {
-    let told = io::write_all(output, b"# refused ")
-        & io::print_decimal(output, number as u64)
-        & io::write_all(output, b" at byte ")
-        & io::print_decimal(output, f.at as u64);
+fn say_refused<W: Write>(
+    output: &mut W,
+    bytes: &[u8],
+    road: &[u32; 452],
+    f: Next,
+    number: u8,
+) -> bool {
+    let at = f.at;
+    let told = write!(output, "# refused {number} at byte {at}").is_ok();
     if number == 13 {
-        return told & io::write_all(output, b", 96 periods are taken, and more bytes follow\n");
+        return told & say(output, ", 96 periods are taken, and more bytes follow\n");
     }
     told & say_reason(output, number)
         & say_sheet_of(output, f.sheet)
         & say_field(output, f.sheet, f.place)
-        & io::write_all(output, b": read ")
-        & say_read(output, bytes, f.at)
+        & say(output, ": read ")
+        & say_read(output, bytes, at)
         & say_range(output, range_of(f, road))
 }
 
 // The refusal of a study's periods, from a place of its bytes on: field by field, and 13 where more than 96 stand there.
 fn refusal_from(bytes: &[u8], start: usize, road: &[u32; 452]) -> Refusal {
     let mut at = start;
-    let mut i: u32 = 0;
-    while i < 96 {
+    for _ in 0..96 {
         if bytes.len() <= at {
             return refused_at(0, at);
         }
         let sheet = sheets::read_period(&bytes[at..], road);
         if sheet.refusal != 0 {
-            return refused_at(sheet.refusal, sum(at, sheet.offset));
+            return refused_at(sheet.refusal, at.saturating_add(sheet.offset));
         }
-        at = sum(at, sheet.used);
-        i += 1;
+        at = at.saturating_add(sheet.used);
     }
     refused_at(if bytes.len() <= at { 0 } else { 13 }, at)
 }
 
 // The refusal of a study: that of its road, which was read, or of its periods.
-fn refusal_of(bytes: &[u8], sheet: SheetReading) -> Refusal {
+fn refusal_of(bytes: &[u8], sheet: &SheetReading) -> Refusal {
     if sheet.refusal != 0 {
         return refused_at(sheet.refusal, sheet.offset);
     }
-    let road = sheet.row;
-    refusal_from(bytes, sheet.used, &road)
+    refusal_from(bytes, sheet.used, &sheet.row)
 }
 
-fn complain(errors: i32, what: &[u8]) {
-    io::write_all(errors, b"study_to_text: ");
-    io::write_all(errors, what);
-    io::write_all(errors, b"\n");
+fn complain<W: Write>(errors: &mut W, what: &str) {
+    let _ = writeln!(errors, "study_to_text: {what}");
 }
 
-fn complain_of_refusal(errors: i32, number: u8, place: usize) {
-    io::write_all(errors, b"study_to_text: refused ");
-    io::print_decimal(errors, number as u64);
-    io::write_all(errors, b" ");
-    io::print_decimal(errors, place as u64);
-    io::write_all(errors, b", as the end of the text says\n");
+fn complain_of_refusal<W: Write>(errors: &mut W, refusal: Refusal) {
+    let number = refusal.number;
+    let place = refusal.place;
+    let _ = writeln!(
+        errors,
+        "study_to_text: refused {number} {place}, as the end of the text says"
+    );
 }
 
 // Writes the fields, of a refused study those before the bad one with a comment on that, and tells whether all was written.
-fn say_study(output: i32, bytes: &[u8], road: &[u32; 452], refusal: u8, place: usize) -> bool {
-    if refusal == 0 {
-        let all = say_fields(output, bytes, bytes.len());
-        return all.fine;
+fn say_study<W: Write>(output: &mut W, bytes: &[u8], road: &[u32; 452], refusal: Refusal) -> bool {
+    if refusal.number == 0 {
+        return say_fields(output, bytes, bytes.len()).fine;
     }
-    let f = say_fields(output, bytes, place);
-    f.fine & say_refused(output, bytes, road, f, refusal)
+    let f = say_fields(output, bytes, refusal.place);
+    f.fine & say_refused(output, bytes, road, f, refusal.number)
 }
 
-fn say_or_complain(output: i32, errors: i32, bytes: &[u8]) {
+fn say_or_complain<W: Write, E: Write>(output: &mut W, errors: &mut E, bytes: &[u8]) {
     let sheet = sheets::read_road(bytes);
-    let road = sheet.row;
-    let seen = refusal_of(bytes, sheet);
-    if !say_study(output, bytes, &road, seen.number, seen.place) {
-        complain(errors, b"cannot write the text");
+    let refusal = refusal_of(bytes, &sheet);
+    if !say_study(output, bytes, &sheet.row, refusal) {
+        complain(errors, "cannot write the text");
     }
-    if seen.number != 0 {
-        complain_of_refusal(errors, seen.number, seen.place);
+    if refusal.number != 0 {
+        complain_of_refusal(errors, refusal);
     }
 }
 
 // Turns the bytes of a study into text. The buffer has to hold the study, or as much as its refusal takes to be told.
-pub fn turn(source: i32, output: i32, errors: i32, buffer: &mut [u8]) {
+pub fn turn<R: Read, W: Write, E: Write>(
+    source: &mut R,
+    output: &mut W,
+    errors: &mut E,
+    buffer: &mut [u8],
+) {
     let got = input::read_to_end(source, buffer);
-    let n = got.length;
     if got.failed {
-        complain(errors, b"cannot read the study");
+        complain(errors, "cannot read the study");
         return;
     }
-    say_or_complain(output, errors, &buffer[0..n]);
+    say_or_complain(output, errors, &buffer[..got.length]);
 }
