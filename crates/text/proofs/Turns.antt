@@ -1,7 +1,7 @@
 -- What the definitions say at a place of a line, by the tests that the code makes there.
 use Prim.Native.Nat.{ℕ, suc, ◌+◌, ◌-◌, ◌*◌, ◌≤◌, ◌<◌, min}
-use mathlib.Core.Bool.{Bool, true, false, ◌&&◌, ◌||◌, and_false, false≢true}
-use mathlib.Core.Path.{◌≡◌, refl, sym, ap, ◌∙◌}
+use mathlib.Core.Bool.{Bool, true, false, ◌&&◌, ◌||◌, and-false, false≢true}
+use mathlib.Core.Path.{◌≡◌, refl, sym, ap}
 use mathlib.Core.List.{List, [], ◌∷◌}
 use native.Mathlib.Numerals.{add-one}
 use native.Mathlib.Omega.{arith}
@@ -9,7 +9,6 @@ use lib.ListN.{length, drop, get_or, drop_of_length-le}
 use lib.Seq.{drop-cons}
 use lib.Dec.{leb, eqb}
 use borrow.Author.Tests.{le-leb, lt-leb, leb-true, eq-eqb, ne_eqb}
-use Rattle.text.specs.declared.Numeral.{Numeral}
 use Rattle.text.specs.declared.Numeral.TheVariants.{Value, Other}
 use Rattle.text.specs.Text.{is_digit, stops, first_from, word_starting, word_from, word_at, number_from, number_of, same_word}
 
@@ -90,7 +89,7 @@ same_length [] [] h = absurd (h refl)
 same_length [] (y ∷ b) h = refl
 same_length (x ∷ a) [] h = refl
 same_length (x ∷ a) (y ∷ b) h =
-    rw (← same_length a b (λ (e : length a ≡ length b). h (ap suc e)), and_false (eqb x y))
+    rw (← same_length a b (λ (e : length a ≡ length b). h (ap suc e)), and-false (eqb x y))
 
 module _ (a b : List ℕ) (i : ℕ) where
   pub same_end : length a ≤ i → length b ≤ i → same_word (drop i a) (drop i b) ≡ true

@@ -1,4 +1,6 @@
 // Text for people, line by line: words with white space between them, and decimal numbers. A comment goes from a `#` to the end of its line.
+#![tactic(auto)]
+
 ghost use Rattle.std.specs.Prelude.{◌≡◌, ◌+◌, ◌-◌, ◌*◌, ◌≤◌, ◌<◌, min, length, drop};
 ghost use Rattle.text.specs.Text.{is_white, is_digit, stops, first_from, word_at, number_of, same_word};
 
