@@ -1,4 +1,6 @@
 // The sheet as a row of numbers: the section count first, then a place for each number, with the values that it may have.
+#![tactic(auto)]
+
 ghost use Rattle.std.specs.Prelude.{◌≡◌, ◌≤◌, ◌<◌};
 ghost use Rattle.numbers.specs.Number.{reading};
 ghost use Rattle.planning_sheet.specs.Sheet.{section_field, allowed_at, field_at, sections_from, read_sheet, section_of, NoSections, sections_reading};
