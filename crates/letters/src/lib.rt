@@ -1,4 +1,6 @@
 // The level letter of a segment.
+#![tactic(auto)]
+
 ghost use Rattle.std.specs.Prelude.{◌≡◌, ◌≤◌};
 ghost use Rattle.letters.specs.Level.{holds_at_most, level_by, level_of, letter_byte};
 
@@ -51,6 +53,7 @@ pub fn level_of(n: u32, length: u32, lanes: u32) -> Level
 }
 
 // The byte of a letter.
+#[tactic(auto, unfolding(crate::specs::Level::letter_byte))]
 pub fn letter_byte(level: Level) -> u8
     ensures { result ≡ letter_byte level }
 {
