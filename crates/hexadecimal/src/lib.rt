@@ -1,4 +1,6 @@
 // Bytes in hexadecimal, two digits each.
+#![tactic(auto)]
+
 ghost use Rattle.std.specs.Prelude.{◌≡◌, ◌≤◌, length};
 ghost use Rattle.hexadecimal.specs.Spelling.{hex_value, read_bytes, HasBytes};
 
