@@ -1,4 +1,6 @@
 // The sections' demands, a running sum that is refused where it leaves 0 .. 1,000,000, and what they leave in the carryover slice.
+#![tactic(auto)]
+
 ghost use Rattle.std.specs.Prelude.{◌≡◌, ◌≤◌, pos, length};
 ghost use Rattle.sections.specs.Good.{GoodSection};
 ghost use Rattle.planning_sheet.specs.Good.{GoodSections};
@@ -23,6 +25,7 @@ pub struct Demands {
 }
 
 // The demand of a section, from that of the section before it.
+#[tactic(auto, using(crate::proofs::Sums::next_below, crate::proofs::Sums::next_above, crate::proofs::Sums::next_within))]
 fn next_demand(d: u32, s: Section, carried: u32) -> Demand
     requires { (d ≤ 1000000) × GoodSection s }
     ensures { result ≡ checked_of (next_of (pos d) s carried) }
