@@ -7,7 +7,6 @@ use Rattle.sections.specs.declared.section.Section.{Section}
 use Rattle.solving.specs.declared.Totals.{Totals}
 use Rattle.solving.specs.declared.Done.{Done}
 use Rattle.solving.specs.declared.Service.{Service}
-use Rattle.solving.specs.declared.Service.TheVariants as Service
 use Rattle.sections.specs.Real.{real, ◌⊕◌, ◌⊗◌, ◌⊘◌}
 use Rattle.sections.specs.Section.{Outcome, free, slowed, queued, outcome, answer_of, no_answer}
 use Rattle.planning_sheet.specs.Sheet.{section_of}

@@ -1,4 +1,6 @@
 // The sections' answers in order, and what they sum up to: the facility's density and its level of service.
+#![tactic(auto)]
+
 ghost use Rattle.std.specs.Prelude.{◌≡◌, map, ◌≤◌};
 ghost use Rattle.sections.specs.Section.{outcome};
 ghost use Rattle.sections.specs.Good.{GoodSection};
