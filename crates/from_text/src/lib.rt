@@ -132,7 +132,8 @@ fn take_line<W: Write, E: Write>(
     out: &mut [u8],
     used: usize,
 ) -> Done
-    requires { (got.length ≤ length line.now) × (used ≤ length out.old) }
+    requires of_line { got.length ≤ length line.now }
+    requires of_bytes { used ≤ length out.old }
     ensures { result.used ≤ length out.new }
 {
     let n = got.length;
