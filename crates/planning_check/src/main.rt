@@ -21,7 +21,8 @@ struct Listed {
 // The place of the first comma from a place on, or the end.
 fn comma(list: &[u8], from: usize) -> usize
     requires { from ≤ length list.now }
-    ensures { (from ≤ result) × (result ≤ length list.now) }
+    ensures behind { from ≤ result }
+    ensures within { result ≤ length list.now }
 {
     let mut i = from;
     while i < list.len() {

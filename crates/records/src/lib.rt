@@ -83,7 +83,8 @@ pub fn say_record<W: Write>(output: &mut W, record: &[u8]) {
 
 // The part of a line that is a record: from its first word to the last before an arrow or a comment.
 fn record_in(line: &[u8]) -> Word
-    ensures { (result.start ≤ result.end) × (result.end ≤ length line.now) }
+    ensures order { result.start ≤ result.end }
+    ensures within { result.end ≤ length line.now }
 {
     let name = text::next_word(line, 0);
     let start = name.start;
@@ -104,7 +105,8 @@ fn record_in(line: &[u8]) -> Word
 // The record of a line that is longer than its buffer, which has the start of it: whole where a comment or an arrow stands behind it,
 // else it is told, and none.
 fn record_in_long<W: Write>(output: &mut W, start: &[u8]) -> Word
-    ensures { (result.start ≤ result.end) × (result.end ≤ length start.now) }
+    ensures order { result.start ≤ result.end }
+    ensures within { result.end ≤ length start.now }
 {
     let record = record_in(start);
     let behind = text::next_word(start, record.end);
@@ -128,7 +130,8 @@ pub fn start() -> Record {
 
 // The record of what a read of a line gave, none where there is none; a line that is too long and a read that failed are told.
 fn record_of<W: Write, E: Write>(output: &mut W, errors: &mut E, kind: Kind, line: &[u8]) -> Word
-    ensures { (result.start ≤ result.end) × (result.end ≤ length line.now) }
+    ensures order { result.start ≤ result.end }
+    ensures within { result.end ≤ length line.now }
 {
     match kind {
         Kind::Whole => record_in(line),
@@ -150,7 +153,8 @@ pub fn next<R: Read, W: Write, E: Write>(
     chunk: &mut [u8],
     line: &mut [u8],
 ) -> Record
-    ensures { (result.start ≤ result.end) × (result.end ≤ length line.new) }
+    ensures order { result.start ≤ result.end }
+    ensures within { result.end ≤ length line.new }
 {
     let mut source = before.source;
     for _ in 0..u64::MAX {
@@ -174,7 +178,8 @@ pub fn next<R: Read, W: Write, E: Write>(
 
 // The one word of what is left of a record; none where there is no word or more than one.
 pub fn only_word(rest: &[u8]) -> Word
-    ensures { (result.start ≤ result.end) × (result.end ≤ length rest.now) }
+    ensures order { result.start ≤ result.end }
+    ensures within { result.end ≤ length rest.now }
 {
     let w = text::next_word(rest, 0);
     let more = text::next_word(rest, w.end);
