@@ -1,0 +1,12 @@
+-- The reports in turn: the sum so far is of those made.
+use Prim.Native.Nat.{◌+◌, ◌-◌, ◌*◌, ◌%◌, ◌≤◌}
+use mathlib.Core.Path.{◌≡◌}
+use Rattle.steps.specs.Step.{sum_to}
+use Rattle.facility.specs.Calls.{report_of}
+use Rattle.timing.proofs.freeway_time_reports.Given as goal
+
+abbrev pub invariant-loop-i : goal.invariant-loop-i
+invariant-loop-i l = (l.i ≤ l.times) × (l.sum ≤ 4294967296 * l.i) × (l.sum ≡ sum_to (λ j. (report_of l.f (j % 64 + 1)).n) l.i)
+
+abbrev pub decreases-loop-i : goal.decreases-loop-i
+decreases-loop-i l = l.times - l.i
