@@ -1,7 +1,6 @@
 -- Document 02, Q-2, the converter: a whole study in the other layout, its refusals with their offsets from the study's start, and the call on a
 -- lent target. "Nothing is written to the target unless the whole study converts."
-use Rattle.std.specs.Prelude.{ℕ, zero, suc, ◌+◌, List, [], ◌∷◌, ◌++◌, length, take, drop, ltb}
-use Rattle.numbers.specs.Choice.{if◌then◌else◌}
+use Rattle.std.specs.Prelude.{ℕ, zero, suc, ◌+◌, List, [], ◌∷◌, ◌++◌, length, take, drop, ltb, if◌then◌else◌}
 use Rattle.numbers.specs.Row.{Rows, ReadRow, RefusedAt}
 use Rattle.numbers.specs.Writing.{Writing, Wrote, Refused, write_answer, write_into}
 use Rattle.sheets.specs.Read.{read_road, padded}

@@ -1,6 +1,5 @@
 -- Document 01, "Planning sheet": "Demand d(i) = d(i - 1) + inflow - outflow + carryover(i), d(0) = 0" (document 000, 25-43).
-use Rattle.std.specs.Prelude.{ℕ, zero, suc, Bool, true, false, ◌&&◌, List, leb, ℤ, pos, negsuc, ◌+ℤ◌, ◌-ℤ◌, nat_abs, get_or, replicate}
-use Rattle.numbers.specs.Choice.{if◌then◌else◌}
+use Rattle.std.specs.Prelude.{ℕ, zero, suc, Bool, true, false, ◌&&◌, List, leb, ℤ, pos, negsuc, ◌+ℤ◌, ◌-ℤ◌, nat_abs, get_or, replicate, if◌then◌else◌}
 use Rattle.sections.specs.declared.section.Section.{Section}
 use Rattle.demands.specs.declared.Demand.{Demand}
 use Rattle.demands.specs.declared.Demand.TheVariants.{Within, Outside}

@@ -1,6 +1,5 @@
 -- Document 01, "Calls on a facility": what each call gives, as a whole, refused or not; beside a refusal the facility as it came.
-use Rattle.std.specs.Prelude.{ℕ, ◌+◌, ◌-◌, List, replicate}
-use Rattle.numbers.specs.Choice.{if◌then◌else◌}
+use Rattle.std.specs.Prelude.{ℕ, ◌+◌, ◌-◌, List, replicate, if◌then◌else◌}
 use Rattle.numbers.specs.Writing.{Writing, Refused, write_answer, write_into}
 use Rattle.numbers.specs.Row.{Rows, ReadRow, RefusedAt}
 use Rattle.sheets.specs.Read.{read_road, read_period, padded}

@@ -1,8 +1,7 @@
 -- Document 01, "Refusals that come from the input" and "from the state": the checks of each call that has any beside 9, 7 and
 -- the reading of a road, in their order, from the road, the sheets taken so far, the steps made under the last, and the argument. Each table
 -- stands here alone; the calls and the ledger both use it. 9, that the facility is the empty one, is asked before these.
-use Rattle.std.specs.Prelude.{ℕ, ◌-◌, Bool, ◌&&◌, ◌||◌, List, leb, ltb, eqb}
-use Rattle.numbers.specs.Choice.{if◌then◌else◌}
+use Rattle.std.specs.Prelude.{ℕ, ◌-◌, Bool, ◌&&◌, ◌||◌, List, leb, ltb, eqb, if◌then◌else◌}
 use Rattle.numbers.specs.Row.{Rows, RefusedAt}
 use Rattle.conditions.specs.Conditions.{segments}
 

@@ -1,6 +1,5 @@
 -- Text for people (no rule of document 01): bytes in hexadecimal, two digits each.
-use Rattle.std.specs.Prelude.{ℕ, ◌+◌, ◌-◌, ◌*◌, ◌/◌, ◌&&◌, ◌≡◌, List, [], ◌∷◌, length, take, leb, ltb}
-use Rattle.numbers.specs.Choice.{if◌then◌else◌}
+use Rattle.std.specs.Prelude.{ℕ, ◌+◌, ◌-◌, ◌*◌, ◌/◌, ◌&&◌, ◌≡◌, List, [], ◌∷◌, length, take, leb, ltb, if◌then◌else◌}
 use Rattle.text.specs.Text.{is_digit}
 use Rattle.hexadecimal.specs.declared.Spelled.{Spelled}
 use Rattle.hexadecimal.specs.declared.Spelled.TheVariants.{Count, TooLong, Other}

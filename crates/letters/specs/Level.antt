@@ -1,6 +1,5 @@
 -- Document 01, "Calls on a facility": the level letter (urban limits; a vehicle counts as one passenger car).
-use Rattle.std.specs.Prelude.{ℕ, ◌*◌, Bool, leb}
-use Rattle.numbers.specs.Choice.{if◌then◌else◌}
+use Rattle.std.specs.Prelude.{ℕ, ◌*◌, Bool, leb, if◌then◌else◌}
 use Rattle.letters.specs.declared.Level.{Level}
 use Rattle.letters.specs.declared.Level.TheVariants.{A, B, C, D, E, F}
 

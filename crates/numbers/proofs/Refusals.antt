@@ -5,7 +5,7 @@ use mathlib.Core.List.{List, [], ◌∷◌}
 use native.Mathlib.Omega.{arith}
 use lib.ListN.{drop}
 use lib.Dec.{ltb}
-use Rattle.numbers.specs.Choice.{if◌then◌else◌}
+use Rattle.std.specs.Prelude.{if◌then◌else◌}
 use Rattle.numbers.specs.declared.Range.{Range}
 use Rattle.numbers.specs.Number.{Reading, Read, Refused, last, more, groups, placed, read_number}
 use Rattle.numbers.specs.Field.{in_range, read_field}

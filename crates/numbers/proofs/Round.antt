@@ -9,7 +9,7 @@ use borrow.Author.Tests.{le-ltb, ltb-true, ltb-false}
 use lib.ListN.{drop, take, length}
 use lib.Dec.{ltb}
 use lib.Seq.{drop-append_seam, get_or-drop}
-use Rattle.numbers.specs.Choice.{if◌then◌else◌}
+use Rattle.std.specs.Prelude.{if◌then◌else◌}
 use Rattle.numbers.specs.Number.{Reading, Read, Refused, last, more, groups, placed, read_number, low_group, bytes_from, number_bytes, Bytes}
 use Rattle.numbers.proofs.Turns.{top, top_least}
 use Rattle.numbers.proofs.Stores.{bytes_last}

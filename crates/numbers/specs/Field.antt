@@ -1,7 +1,6 @@
 -- Document 01, "Sheets in seven-bit numbers", refusal 4: "a field is outside its range". A field is a number that has a range; the range
 -- names its refusal, 14 for a period's NS.
-use Rattle.std.specs.Prelude.{ℕ, ◌≤◌, List, ltb}
-use Rattle.numbers.specs.Choice.{if◌then◌else◌}
+use Rattle.std.specs.Prelude.{ℕ, ◌≤◌, List, ltb, if◌then◌else◌}
 use Rattle.numbers.specs.declared.Range.{Range}
 use Rattle.numbers.specs.Number.{Reading, Read, Refused, read_number}
 

@@ -1,4 +1,3 @@
-pub mod Choice
 pub mod Number
 pub mod Field
 pub mod Row

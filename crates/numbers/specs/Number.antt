@@ -1,7 +1,6 @@
 -- Document 01, "Sheets in seven-bit numbers": groups of seven bits, lowest group first, the top bit set on all groups but the last.
 -- At most five groups, value at most 2 ^ 32 - 1, shortest form only.
-use Rattle.std.specs.Prelude.{ℕ, zero, suc, ◌+◌, ◌-◌, ◌*◌, ◌/◌, ◌%◌, ◌<◌, List, [], ◌∷◌, drop, get_or, ltb}
-use Rattle.numbers.specs.Choice.{if◌then◌else◌}
+use Rattle.std.specs.Prelude.{ℕ, zero, suc, ◌+◌, ◌-◌, ◌*◌, ◌/◌, ◌%◌, ◌<◌, List, [], ◌∷◌, drop, get_or, ltb, if◌then◌else◌}
 use Rattle.numbers.specs.declared.Number.{Number}
 use Rattle.numbers.specs.declared.Number.TheVariants.{Value, Refused as NotRead}
 

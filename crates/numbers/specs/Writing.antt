@@ -1,7 +1,6 @@
 -- Document 01, "Sheets in seven-bit numbers": "The writer puts a sheet into a lent buffer from a place that the caller names; bytes outside
 -- the written part keep their contents." Said once, of any bytes: a number's, a row's, a sheet's.
-use Rattle.std.specs.Prelude.{ℕ, ◌+◌, Bool, List, ◌++◌, length, take, drop, leb}
-use Rattle.numbers.specs.Choice.{if◌then◌else◌}
+use Rattle.std.specs.Prelude.{ℕ, ◌+◌, Bool, List, ◌++◌, length, take, drop, leb, if◌then◌else◌}
 use Rattle.numbers.specs.declared.Written.{Written}
 use Rattle.numbers.specs.declared.Written.TheVariants.{Count, Refused as NotWritten}
 

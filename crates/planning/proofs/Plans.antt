@@ -7,7 +7,7 @@ use native.Mathlib.Omega.{arith}
 use lib.Ieee.{Float}
 use lib.ListN.{length, replicate}
 use borrow.Author.Tests.{eq-eqb, ne_eqb}
-use Rattle.numbers.specs.Choice.{if◌then◌else◌}
+use Rattle.std.specs.Prelude.{if◌then◌else◌}
 use Rattle.planning_sheet.specs.declared.SectionsReading.{SectionsReading}
 use Rattle.demands.specs.declared.Demands.{Demands}
 use Rattle.solving.specs.declared.Totals.{Totals}

@@ -7,7 +7,7 @@ use native.Mathlib.Omega.{arith}
 use lib.Dec.{eqb}
 use lib.ListN.{length}
 use borrow.Author.Tests.{eqb-true}
-use Rattle.numbers.specs.Choice.{if◌then◌else◌}
+use Rattle.std.specs.Prelude.{if◌then◌else◌}
 use Rattle.planning_sheet.specs.Sheet.{Reads, Sections, NoSections, read_sheet}
 use Rattle.planning_sheet.proofs.Refusals.{NamedReads, named_sheet}
 use Rattle.demands.specs.Demand.{all_within, demands_of}

@@ -1,6 +1,5 @@
 -- Document 01, "Planning sheet", the whole call: from a sheet's bytes and the carryover to every number that it gives back, refused or not.
-use Rattle.std.specs.Prelude.{ℕ, not, List, map, eqb, Float, length, replicate}
-use Rattle.numbers.specs.Choice.{if◌then◌else◌}
+use Rattle.std.specs.Prelude.{ℕ, not, List, map, eqb, Float, length, replicate, if◌then◌else◌}
 use Rattle.planning.specs.declared.Planned.{Planned}
 use Rattle.sections.specs.Real.{real}
 use Rattle.sections.specs.Section.{Outcome, no_answer}

@@ -1,6 +1,5 @@
 -- Document 01, "Planning sheet": section count 1..64; per section length, lanes, FFS, CAF; then per section inflow and outflow.
-use Rattle.std.specs.Prelude.{ℕ, ◌+◌, ◌*◌, ◌%◌, Bool, true, false, ◌&&◌, List, leb, ltb, eqb, get_or, replicate}
-use Rattle.numbers.specs.Choice.{if◌then◌else◌}
+use Rattle.std.specs.Prelude.{ℕ, ◌+◌, ◌*◌, ◌%◌, Bool, true, false, ◌&&◌, List, leb, ltb, eqb, get_or, replicate, if◌then◌else◌}
 use Rattle.numbers.specs.declared.Range.{Range}
 use Rattle.numbers.specs.Number.{Reading, Read, Refused, read_number}
 use Rattle.numbers.specs.Field.{read_field}

@@ -6,7 +6,7 @@ use native.Mathlib.Nat.{le-div_iff_mul-le, div-lt_iff_lt-mul, mul_assoc, mul-le-
 use native.Mathlib.Omega.{arith}
 use lib.Dec.{leb, ltb}
 use borrow.Author.Tests.{leb-true, leb-false, ltb-false}
-use Rattle.numbers.specs.Choice.{if◌then◌else◌}
+use Rattle.std.specs.Prelude.{if◌then◌else◌}
 use Rattle.conditions.specs.Shortcuts.{easy_below, full_from}
 use Rattle.rules.specs.Rules.{rounded_up, wish_to_leave, supply, ramp_flow, main_flow}
 use Rattle.rules.proofs.Formulas.{main_flow_most, merge_exact, ramp_flow_most}

@@ -1,7 +1,6 @@
 -- Document 01, "One step": each rule as a formula, in the paper's order; C, the lowered C, J, Q and the lanes are those in force, which stand
 -- in the conditions. Every difference is zero where it would be negative, J − n too (document 02, Q-1).
-use Rattle.std.specs.Prelude.{ℕ, zero, suc, ◌+◌, ◌-◌, ◌*◌, ◌/◌, ◌%◌, min, max, Bool, leb}
-use Rattle.numbers.specs.Choice.{if◌then◌else◌}
+use Rattle.std.specs.Prelude.{ℕ, zero, suc, ◌+◌, ◌-◌, ◌*◌, ◌/◌, ◌%◌, min, max, Bool, leb, if◌then◌else◌}
 use Rattle.rules.specs.declared.Split.{Split}
 use Rattle.rules.specs.declared.Flow.{Flow}
 

@@ -6,7 +6,7 @@ use Prim.Native.Nat.{ℕ}
 use lib.Dec.{eqb}
 use lib.Ieee.{nan}
 use lib.ListN.{get_or}
-use Rattle.numbers.specs.Choice.{if◌then◌else◌}
+use Rattle.std.specs.Prelude.{if◌then◌else◌}
 use Rattle.sections.specs.declared.table.Row.{Row}
 use Rattle.sections.specs.Table.{row_of, row75, row70, row65, row60, row55}
 use Rattle.sections.specs.Places.{place_of}

@@ -1,7 +1,6 @@
 -- Document 01, "Planning sheet": one section, from its demand, in the paper's order of operations. Equation numbers are document 000's.
-use Rattle.std.specs.Prelude.{ℕ, ◌+◌, ◌*◌, ◌-◌, ◌/◌, min, ltb, Float}
+use Rattle.std.specs.Prelude.{ℕ, ◌+◌, ◌*◌, ◌-◌, ◌/◌, min, ltb, Float, if◌then◌else◌}
 use Rattle.std.specs.Float.Ieee.{lt}
-use Rattle.numbers.specs.Choice.{if◌then◌else◌}
 use Rattle.sections.specs.declared.table.Row.{Row}
 use Rattle.sections.specs.declared.section.Section.{Section}
 use Rattle.sections.specs.declared.section.Work.{Work}

@@ -1,7 +1,6 @@
 -- Document 01, "Planning sheet": the table of A, B, C, D and E by free-flow speed (document 000, Exhibit 25-16).
-use Rattle.std.specs.Prelude.{ℕ, Bool, ◌||◌, eqb}
+use Rattle.std.specs.Prelude.{ℕ, Bool, ◌||◌, eqb, if◌then◌else◌}
 use Rattle.std.specs.Float.Ieee.{round}
-use Rattle.numbers.specs.Choice.{if◌then◌else◌}
 use Rattle.sections.specs.declared.table.Row.{Row}
 use Rattle.sections.specs.Real.{hundredths, minus_hundredths}
 

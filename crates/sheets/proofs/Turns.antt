@@ -8,7 +8,7 @@ use native.Mathlib.Omega.{arith}
 use lib.ListN.{length, take, drop, set, get_or, replicate, length-append, length-drop, take-append-drop}
 use lib.Dec.{ltb}
 use lib.Seq.{take-suc, drop-drop, take_at, drop_at}
-use Rattle.numbers.specs.Choice.{if◌then◌else◌}
+use Rattle.std.specs.Prelude.{if◌then◌else◌}
 use Rattle.numbers.specs.Number.{Read, Refused, low_group, bytes_from, number_bytes}
 use Rattle.numbers.specs.Field.{read_field}
 use Rattle.numbers.specs.Writing.{write_into}

@@ -7,7 +7,7 @@ use native.Mathlib.Omega.{arith}
 use lib.ListN.{length, take, drop, get_or, length-drop}
 use lib.Seq.{take_all}
 use lib.Dec.{ltb}
-use Rattle.numbers.specs.Choice.{if◌then◌else◌}
+use Rattle.std.specs.Prelude.{if◌then◌else◌}
 use Rattle.numbers.specs.declared.Range.{Range}
 use Rattle.numbers.specs.Number.{Reading, Read, Refused, last, more, groups, placed, read_number}
 use Rattle.numbers.specs.Field.{in_range, read_field}

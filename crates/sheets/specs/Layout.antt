@@ -1,7 +1,6 @@
 -- Document 01, "Road sheet" and "Period sheet", and document 02, Q-1, open lanes, and Q-2, the layout before these: how many numbers each
 -- has, and the range of each place.
-use Rattle.std.specs.Prelude.{ℕ, ◌+◌, ◌-◌, ◌*◌, ◌/◌, ◌%◌, min, max, List, [], ◌∷◌, get_or, length, ltb, eqb, ◌≡◌}
-use Rattle.numbers.specs.Choice.{if◌then◌else◌}
+use Rattle.std.specs.Prelude.{ℕ, ◌+◌, ◌-◌, ◌*◌, ◌/◌, ◌%◌, min, max, List, [], ◌∷◌, get_or, length, ltb, eqb, ◌≡◌, if◌then◌else◌}
 use Rattle.numbers.specs.declared.Range.{Range}
 use Rattle.sheets.specs.declared.Layout.{Layout}
 use Rattle.sheets.specs.declared.Layout.TheVariants.{Road, Period, FirstPeriod}

@@ -1,8 +1,7 @@
 -- Document 01, "Planning sheet": "Facility density: the sum of density x (L x lanes) over the sum of L x lanes, sections in order; its
 -- letter is by the limits 11, 18, 26, 35, 45, and F if any section is queued" (document 000, Exhibit 25-17, urban).
-use Rattle.std.specs.Prelude.{ℕ, zero, suc, ◌+◌, ◌*◌, Bool, true, false, ◌||◌, List, get_or, Float}
+use Rattle.std.specs.Prelude.{ℕ, zero, suc, ◌+◌, ◌*◌, Bool, true, false, ◌||◌, List, get_or, Float, if◌then◌else◌}
 use Rattle.std.specs.Float.Ieee.{le}
-use Rattle.numbers.specs.Choice.{if◌then◌else◌}
 use Rattle.sections.specs.declared.section.Section.{Section}
 use Rattle.solving.specs.declared.Totals.{Totals}
 use Rattle.solving.specs.declared.Done.{Done}

@@ -6,7 +6,7 @@ use native.Mathlib.Omega.{arith}
 use lib.ListN.{length}
 use lib.Dec.{ltb}
 use borrow.Author.Tests.{lt-ltb, le-ltb}
-use Rattle.numbers.specs.Choice.{if◌then◌else◌}
+use Rattle.std.specs.Prelude.{if◌then◌else◌}
 use Rattle.steps.specs.declared.State.{State}
 use Rattle.rules.specs.Rules.{off, through}
 use Rattle.conditions.specs.Conditions.{Conditions, in_force_at}

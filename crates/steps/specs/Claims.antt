@@ -1,7 +1,6 @@
 -- Document 01, "The list statement", with document 02, Q-1, the jam clause, and Q-3, the remainder: the claims on one step, from its conditions and
 -- the states before and after; the flows are those that the state after tells, capacity, jam and share those in force in the step.
-use Rattle.std.specs.Prelude.{ℕ, zero, suc, ◌+◌, ◌*◌, ◌≤◌, ◌<◌, min, ◌≡◌, ltb}
-use Rattle.numbers.specs.Choice.{if◌then◌else◌}
+use Rattle.std.specs.Prelude.{ℕ, zero, suc, ◌+◌, ◌*◌, ◌≤◌, ◌<◌, min, ◌≡◌, ltb, if◌then◌else◌}
 use Rattle.steps.specs.declared.State.{State}
 use Rattle.conditions.specs.Conditions.{Conditions, in_force_at}
 use Rattle.steps.specs.Step.{cell_in, main_wish_at, ramp_wish_at, supply_at, arrived_of, left_of, stored_of}

@@ -1,7 +1,6 @@
 -- Document 01, "One step": the rules wired over the road, every value from the state at the step's start.
 -- Segments and nodes are counted from 0: node i is the entrance of segment i, node NS is the exit.
-use Rattle.std.specs.Prelude.{ℕ, zero, suc, ◌+◌, ◌-◌, min, Bool, List, get_or, replicate, set, ltb}
-use Rattle.numbers.specs.Choice.{if◌then◌else◌}
+use Rattle.std.specs.Prelude.{ℕ, zero, suc, ◌+◌, ◌-◌, min, Bool, List, get_or, replicate, set, ltb, if◌then◌else◌}
 use Rattle.segment.specs.declared.Cell.{Cell}
 use Rattle.rules.specs.declared.Flow.{Flow}
 use Rattle.steps.specs.declared.State.{State}

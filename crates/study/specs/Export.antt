@@ -1,6 +1,5 @@
 -- A forecast as 200 numbers, in the order of the header, for programs in C and Rust: no rule of document 01.
-use Rattle.std.specs.Prelude.{ℕ, List, [], ◌∷◌, ◌++◌, length, drop, ltb}
-use Rattle.numbers.specs.Choice.{if◌then◌else◌}
+use Rattle.std.specs.Prelude.{ℕ, List, [], ◌∷◌, ◌++◌, length, drop, ltb, if◌then◌else◌}
 use Rattle.study.specs.declared.Line.{Line}
 use Rattle.study.specs.declared.Listing.{Listing}
 use Rattle.study.specs.Forecast.{forecast_of}

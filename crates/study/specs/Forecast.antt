@@ -1,7 +1,6 @@
 -- Document 01, "Merges, splits and a worked study", the program `forecast`: a whole study, from the bytes of its file to what the listing
 -- shows, by the ledger alone.
-use Rattle.std.specs.Prelude.{ℕ, zero, suc, ◌+◌, List, length, drop, replicate, ltb}
-use Rattle.numbers.specs.Choice.{if◌then◌else◌}
+use Rattle.std.specs.Prelude.{ℕ, zero, suc, ◌+◌, List, length, drop, replicate, ltb, if◌then◌else◌}
 use Rattle.numbers.specs.Row.{Rows, ReadRow, RefusedAt}
 use Rattle.sheets.specs.Read.{read_road, padded}
 use Rattle.conditions.specs.Conditions.{segments}

@@ -1,7 +1,6 @@
 -- Text for people (no rule of document 01), a line at a time: words with white space between them, and decimal numbers. A comment goes
 -- from a `#` to the end of its line.
-use Rattle.std.specs.Prelude.{ℕ, ◌+◌, ◌-◌, ◌*◌, min, Bool, true, false, not, ◌&&◌, ◌||◌, List, [], ◌∷◌, length, drop, leb, eqb}
-use Rattle.numbers.specs.Choice.{if◌then◌else◌}
+use Rattle.std.specs.Prelude.{ℕ, ◌+◌, ◌-◌, ◌*◌, min, Bool, true, false, not, ◌&&◌, ◌||◌, List, [], ◌∷◌, length, drop, leb, eqb, if◌then◌else◌}
 use Rattle.text.specs.declared.Word.{Word}
 use Rattle.text.specs.declared.Numeral.{Numeral}
 use Rattle.text.specs.declared.Numeral.TheVariants.{Value, Other}

@@ -1,6 +1,6 @@
 -- The writer's loop: the first i bytes of the number are in `out`, and what is left of them is the bytes of x.
 use mathlib.Core.Path.{◌≡◌}
-use Prim.Native.Nat.{◌-◌, ◌<◌}
+use Prim.Native.Nat.{◌<◌}
 use lib.ListN.{length, drop}
 use Rattle.numbers.specs.Number.{number_bytes, bytes_from}
 use Rattle.numbers.proofs.Turns.{top}

@@ -1,8 +1,8 @@
 -- The reader's loop: the groups so far say `value`, the next group weighs `scale`, and what is left to read is the number that starts at i.
-use mathlib.Core.Path.{◌≡◌, refl, sym, ap, ◌∙◌}
-use Prim.Native.Nat.{ℕ, ◌+◌, ◌-◌, ◌*◌, ◌^◌, ◌≤◌, ◌<◌}
+use mathlib.Core.Path.{refl, sym, ap, ◌∙◌}
+use Prim.Native.Nat.{◌+◌, ◌-◌, ◌*◌, ◌^◌, ◌<◌}
 use native.Mathlib.Omega.{arith}
-use lib.ListN.{length, get_or}
+use lib.ListN.{get_or}
 use Rattle.numbers.specs.Number.{read_number, above}
 use Rattle.numbers.proofs.Turns.{top, above_start, above_more, read_end, read_wide, read_fifth, read_last, read_more, fifth_fits, scale_fits, group_below, room_more}
 use Rattle.numbers.proofs.read.Goals as goal

@@ -1,6 +1,6 @@
 -- The reader's loop: the groups so far say `value`, the next group weighs `scale`, and what is left to read is the number that starts at i.
 use mathlib.Core.Path.{◌≡◌}
-use Prim.Native.Nat.{◌-◌, ◌*◌, ◌^◌, ◌<◌}
+use Prim.Native.Nat.{◌*◌, ◌^◌, ◌<◌}
 use lib.ListN.{drop}
 use Rattle.numbers.specs.Number.{groups, read_number, above}
 use Rattle.numbers.proofs.Turns.{top}
