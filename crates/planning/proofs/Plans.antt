@@ -77,6 +77,10 @@ module _ (bytes carryover : List ℕ) (got : SectionsReading) (e : got ≡ secti
           let b = fit_by (all_within got.count got.row carryover got.count) (demands_of got.count got.row carryover) h d f in
           rw (taken_is (read_sheet bytes) got e t, eq-eqb (length carryover) got.count same, b.0, b.1)
 
+pub length_refused : (bytes carryover : List ℕ) → (sections_reading (read_sheet bytes)).read ≡ true
+    → (length carryover ≡ (sections_reading (read_sheet bytes)).count → ⊥) → plan_of bytes carryover ≡ refused_plan 8 0 carryover
+length_refused bytes carryover t n = sym (plan_length bytes carryover (sections_reading (read_sheet bytes)) refl t n)
+
 -- ---- the parts of an accepted plan
 pub accepted_is : (n : ℕ) (row : List ℕ) (used : ℕ) (each : List ℕ) (answers : List Outcome) (t : Totals) (k : Float) (l : Letter) (slice : List ℕ)
     → answers ≡ answers_of n row each → t ≡ totals_of n row each n → k ≡ facility_density t → l ≡ letter_of k t.queued → slice ≡ carryover_of n row each

@@ -1,5 +1,7 @@
 // The planning sheet: from a sheet's bytes and the carryover of the period before to each section's answer, the facility's density and
 // level of service, and the carryover of this period.
+#![tactic(auto)]
+
 ghost use Rattle.std.specs.Prelude.{◌≡◌, ℕ, ◌≤◌, List, length};
 ghost use Rattle.planning_sheet.specs.Good.{GoodSections};
 ghost use Rattle.planning.specs.Plan.{planned, refused_plan, accepted_plan, plan_of};
@@ -65,6 +67,7 @@ fn accepted(
 }
 
 // Works a sheet out. The new carryover replaces the old in the slice, unless the sheet is refused.
+#[tactic(auto, using(crate::proofs::Plans::length_refused))]
 pub fn plan(bytes: &[u8], carryover: &mut [u32]) -> Planned
     ensures { planned result carryover.new ≡ plan_of bytes.now carryover.old }
 {
