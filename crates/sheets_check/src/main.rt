@@ -179,9 +179,11 @@ fn play_number<W: Write>(output: &mut W, word: &[u8], more: Numbers) {
 fn road_of(word: &[u8]) -> Road {
     let mut bytes = input::large_buffer();
     let given = records::bytes_of(word, &mut bytes);
+    let sheet = sheets::read_road(&bytes[..given.count]);
+    let row = sheet.row;
     Road {
         fine: given.fine,
-        row: sheets::read_road(&bytes[..given.count]).row,
+        row,
     }
 }
 
