@@ -1,6 +1,6 @@
 -- What was written lies within its buffer.
 use Rattle.std.proofs.Common.{ℕ, ◌+◌, ◌≤◌, Bool, true, false, ◌≡◌, refl, List, length, leb, leb-true, arith}
-use Rattle.numbers.specs.Choice.{if◌then◌else◌}
+use Rattle.std.specs.Prelude.{if◌then◌else◌}
 use Rattle.numbers.specs.Writing.{Wrote, Refused, room_at, write_answer}
 
 within_by : (buffer bytes : List ℕ) (at n : ℕ) (t : Bool) → leb (at + length bytes) (length buffer) ≡ t
