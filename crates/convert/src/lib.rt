@@ -304,8 +304,8 @@ fn count_or_offset(answer: Answer) -> u64
 }
 
 // `to_second` for C and Rust: the refusal's number, 0 for none, is the answer; count gets that of the bytes written, or the refusal's offset.
-#[unsafe(no_mangle)]
-pub extern "C" fn freeway_to_second(study: &[u8], target: &mut [u8], count: &mut u64) -> u64
+// The crate `convert_c` exports both.
+pub fn freeway_to_second(study: &[u8], target: &mut [u8], count: &mut u64) -> u64
     ensures { record { refusal = result; count = count.new; target = target.new } ≡ export_of ToSecond study.now target.old }
 {
     let answer = to_second(study, target);
@@ -314,8 +314,7 @@ pub extern "C" fn freeway_to_second(study: &[u8], target: &mut [u8], count: &mut
 }
 
 // `to_first` for C and Rust, as above.
-#[unsafe(no_mangle)]
-pub extern "C" fn freeway_to_first(study: &[u8], target: &mut [u8], count: &mut u64) -> u64
+pub fn freeway_to_first(study: &[u8], target: &mut [u8], count: &mut u64) -> u64
     ensures { record { refusal = result; count = count.new; target = target.new } ≡ export_of ToFirst study.now target.old }
 {
     let answer = to_first(study, target);

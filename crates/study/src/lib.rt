@@ -184,8 +184,8 @@ fn put_lines(lines: [Line; 64], out: &mut [u64])
 }
 
 // The forecast of a study, for C and Rust: its numbers go to the front of `out`, and the refusal's number, 0 for none, is the answer.
-#[unsafe(no_mangle)]
-pub extern "C" fn freeway_forecast(study: &[u8], out: &mut [u64]) -> u64
+// The crate `study_c` exports it.
+pub fn freeway_forecast(study: &[u8], out: &mut [u64]) -> u64
     ensures { (result ≡ export_answer study.now out.old) × (out.new ≡ export_into study.now out.old) }
 {
     if out.len() < 200 {
