@@ -2,7 +2,7 @@
  * Rewrites a study from standard input in the other layout of period sheets: from the first to the second with every lane
  * open, or back. A refusal goes to standard error, with status 1; no byte is then written.
  *
- * In the repository's root, after `rt staticlib convert`:
+ * In the repository's root, after `./build convert_c`:
  *
  *     cc -O2 -Iinclude examples/c/convert.c target/staticlib/libconvert.a -o target/convert-c
  *     target/convert-c to-second < studies/first/worked.study > target/worked.study

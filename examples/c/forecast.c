@@ -1,7 +1,7 @@
 /*
  * Reads a study from standard input and prints its listing, as the program `forecast` does.
  *
- * In the repository's root, after `rt staticlib study`:
+ * In the repository's root, after `./build study_c`:
  *
  *     cc -O2 -Iinclude examples/c/forecast.c target/staticlib/libstudy.a -o target/forecast-c
  *     target/forecast-c < studies/worked.study
