@@ -24,14 +24,12 @@ fn comma(list: &[u8], from: usize) -> usize
     ensures behind { from ≤ result }
     ensures within { result ≤ length list.now }
 {
-    let mut i = from;
-    while i < list.len() {
+    for i in from..list.len() {
         if list[i] == b',' {
             return i;
         }
-        i += 1;
     }
-    i
+    list.len()
 }
 
 // The numbers of a list, put at the start of out.
@@ -70,7 +68,7 @@ fn unlist(list: &[u8], out: &mut [u32]) -> Listed
 
 // The bits of an f64.
 fn put_bits<W: Write>(output: &mut W, x: f64) {
-    if x != x {
+    if x.is_nan() {
         say(output, b" nan");
         return;
     }
