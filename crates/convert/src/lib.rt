@@ -248,6 +248,7 @@ fn walk(way: Way, study: &[u8], out: &mut [u8]) -> Walked
 
 // Converts a study, where the way leads: the walk over a buffer of no use tells whether it converts and fits, and only then the target is
 // written.
+#[tactic(auto, using(crate::proofs::Replies::call_refused, crate::proofs::Replies::call_short, crate::proofs::Replies::call_written))]
 pub fn convert(way: Way, study: &[u8], target: &mut [u8]) -> Answer
     ensures { record { answer = told result; target = target.new } ≡ convert_of way study.now target.old }
 {
