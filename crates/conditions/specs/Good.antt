@@ -2,7 +2,7 @@
 use Rattle.std.specs.Prelude.{ℕ, ◌≤◌, ◌<◌}
 use Rattle.parts.specs.declared.RoadGlobals.{RoadGlobals}
 use Rattle.conditions.specs.declared.InForce.{InForce}
-use Rattle.conditions.specs.Conditions.{Conditions, segments, in_force_at}
+use Rattle.conditions.specs.Conditions.{Conditions, in_force_at}
 
 -- at a segment; 2,880,000 = 300 × 8 × 26,400 / 22 is the largest J
 pub record GoodPlace (here : InForce) : Type 0 where

@@ -1,5 +1,5 @@
 -- The code's row of conditions (NS, mainline demand, X, then thirteen numbers a segment; 835 = 3 + 13 × 64 in all): no rule of document 01.
-use Rattle.std.specs.Prelude.{ℕ, ◌+◌, ◌*◌, ◌/◌, ◌<◌, ◌≡◌, List, [], ◌∷◌, length, get_or}
+use Rattle.std.specs.Prelude.{ℕ, ◌+◌, ◌*◌, ◌/◌, ◌<◌, ◌≡◌, List, [], ◌∷◌, get_or}
 use Rattle.conditions.specs.declared.InForce.{InForce}
 use Rattle.conditions.specs.declared.Shortcuts.{Shortcuts}
 use Rattle.conditions.specs.Conditions.{Conditions}

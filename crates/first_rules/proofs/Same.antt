@@ -10,7 +10,7 @@ use Rattle.parts.specs.declared.RoadGlobals.{RoadGlobals}
 use Rattle.parts.specs.declared.Segment.{Segment}
 use Rattle.parts.specs.declared.Entry.{Entry}
 use Rattle.parts.specs.Parts.{road_globals, segment_of, period_globals, entry_of}
-use Rattle.conditions.specs.Conditions.{in_force_with, in_force, None, Under, demand_under, outlet_under, entry_under, segments, in_force_of, conditions_of}
+use Rattle.conditions.specs.Conditions.{in_force_with, in_force, None, Under, demand_under, outlet_under, entry_under, in_force_of, conditions_of}
 use Rattle.conditions.proofs.Values.{values_same}
 use Rattle.conditions.proofs.Good.{open_whole}
 use Rattle.convert.specs.declared.Way.TheVariants.{ToSecond}

@@ -1,5 +1,5 @@
 -- What the arithmetic above the sheets asks of a road and a period, by name (the ranges of the layout): no rule of document 01.
-use Rattle.std.specs.Prelude.{ℕ, ◌≤◌, ◌<◌, ◌≡◌, List, length}
+use Rattle.std.specs.Prelude.{ℕ, ◌≤◌, ◌<◌, ◌≡◌, List}
 use Rattle.parts.specs.declared.Segment.{Segment}
 use Rattle.parts.specs.declared.Entry.{Entry}
 use Rattle.parts.specs.Parts.{road_globals, segment_of, period_globals, entry_of}

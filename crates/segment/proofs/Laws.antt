@@ -3,7 +3,6 @@ use Prim.Native.Nat.{ℕ, ◌+◌, ◌-◌, ◌*◌, ◌/◌, ◌≤◌, ◌<◌
 use mathlib.Core.Bool.{Bool}
 use mathlib.Core.Path.{◌≡◌}
 use native.Mathlib.Omega.{arith}
-use lib.ListN.{length}
 use Rattle.segment.specs.declared.Cell.{Cell}
 use Rattle.conditions.specs.declared.InForce.{InForce}
 use Rattle.rules.specs.declared.Flow.{Flow}

@@ -2,7 +2,6 @@
 use Prim.Native.Nat.{ℕ, ◌*◌, ◌≤◌, ◌<◌}
 use mathlib.Core.Path.{◌≡◌, refl, sym}
 use native.Mathlib.Omega.{arith}
-use lib.ListN.{length}
 use Rattle.conditions.specs.declared.InForce.{InForce}
 use Rattle.conditions.specs.declared.Shortcuts.{Shortcuts}
 use Rattle.segment.specs.declared.Cell.{Cell}

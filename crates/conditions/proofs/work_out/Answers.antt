@@ -1,5 +1,4 @@
 -- NS, the demand and X first, then the segments in turn.
-use Prim.Native.Nat.{◌-◌}
 use mathlib.Core.Path.{refl, ap}
 use native.Mathlib.Omega.{arith}
 use Rattle.parts.specs.declared.RoadGlobals.{RoadGlobals}

@@ -1,7 +1,7 @@
 -- The loop tests each segment.
 use mathlib.Core.Path.{◌≡◌, refl, ap, ◌∙◌}
 use mathlib.Core.Bool.{Bool, ◌&&◌}
-use Prim.Native.Nat.{◌*◌, ◌-◌}
+use Prim.Native.Nat.{◌*◌}
 use lib.Dec.{leb}
 use native.Mathlib.Omega.{arith}
 use Rattle.parts.specs.Allowed.{all_below}

@@ -1,5 +1,4 @@
 -- Without a share those who go on; else the quotient, by the closed form.
-use Prim.Native.Nat.{◌≤◌}
 use mathlib.Core.Path.{sym, ap, ◌∙◌}
 use native.Mathlib.Omega.{arith}
 use Rattle.rules.specs.Outflow.{outflow}

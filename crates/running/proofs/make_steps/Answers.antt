@@ -1,7 +1,6 @@
 -- The conditions once, then the steps in turn.
 use mathlib.Core.Path.{refl, ◌∙◌}
 use native.Mathlib.Omega.{arith}
-use Prim.Native.Nat.{◌-◌}
 use Rattle.running.proofs.Loop.{road_good, sheet_good, force_good, filled, turn_start, turn_asks, turn_sums, turn_moved, turn_end}
 use Rattle.running.proofs.make_steps.Goals as goal
 

@@ -1,7 +1,5 @@
 -- What is in force there, D, what leaves where Y0 do by it, and the test.
 use native.Mathlib.Omega.{arith}
-use mathlib.Core.Path.{◌≡◌}
-use Rattle.rules.specs.Rules.{wish_to_leave}
 use Rattle.rules.proofs.Formulas.{wish_most_capacity}
 use Rattle.segment.specs.Place.{wish_of, most_of, queued_of}
 use Rattle.segment.specs.Entered.{sent_of}

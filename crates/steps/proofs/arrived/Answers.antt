@@ -1,5 +1,5 @@
 -- The ramps in turn: the sum so far is that of the ramps passed.
-use Prim.Native.Nat.{ℕ, ◌≤◌, ◌<◌, ◌-◌}
+use Prim.Native.Nat.{ℕ, ◌≤◌, ◌<◌}
 use mathlib.Core.Path.{◌≡◌, refl}
 use native.Mathlib.Omega.{arith}
 use Rattle.steps.proofs.Sums.{sum_more}

@@ -1,5 +1,5 @@
 -- The segments in turn: the sum so far is that of the segments passed.
-use Prim.Native.Nat.{◌-◌, ◌+◌}
+use Prim.Native.Nat.{◌+◌}
 use mathlib.Core.Path.{◌≡◌, refl}
 use native.Mathlib.Omega.{arith}
 use Rattle.steps.proofs.Sums.{sum_more}

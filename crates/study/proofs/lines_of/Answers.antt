@@ -1,5 +1,4 @@
 -- Line by line.
-use Prim.Native.Nat.{◌-◌}
 use mathlib.Core.Path.{◌≡◌, refl, ap, ◌∙◌}
 use native.Mathlib.Omega.{arith}
 use Rattle.steps.specs.Step.{replaced}

@@ -2,7 +2,7 @@
 use lib.ListN.{length, take, drop}
 use mathlib.Core.List.{◌++◌}
 use mathlib.Core.Path.{◌≡◌}
-use Prim.Native.Nat.{◌+◌, ◌-◌, ◌≤◌}
+use Prim.Native.Nat.{◌-◌, ◌≤◌}
 use Rattle.sheets.specs.Write.{row_bytes}
 use Rattle.sheets.proofs.writing.put_row.Given as goal
 

@@ -3,7 +3,6 @@ use lib.ListN.{length, get_or}
 use lib.Seq.{take_all}
 use mathlib.Core.List.{List}
 use mathlib.Core.Path.{ap, ◌∙◌, refl}
-use Prim.Native.Nat.{◌-◌}
 use native.Mathlib.Omega.{arith}
 use Rattle.sheets.specs.Write.{row_bytes}
 use Rattle.sheets.proofs.Turns.{number_most, length_more}
