@@ -84,7 +84,7 @@ pub fn fields_are_sound<'a>(
     partsteps: u64,
 ) -> bool
     ensures { result ≡ sound (record {
-      road = road.entry.now;
+      road = road.now;
       period = period.now;
       taken = taken;
       made = made;

@@ -24,7 +24,7 @@ pub data Row : Type 0 where
   -- a merge with P, N, M and W gives r and f
   Merge : (P N M W r f : ℕ) → Row
   -- a split with s, F, D and the f ahead gives y and off(y); with s, F and D alone, Y0
-  Split : (s F D f y offY : ℕ) → Row
+  Split : (s F D f y off_y : ℕ) → Row
   Most : (s F D Y0 : ℕ) → Row
   -- a study's bytes after so many steps under its first period
   Study : (bytes : List ℕ) (steps : ℕ) → Steps → Row
@@ -51,7 +51,7 @@ abbrev pub Agrees : Row → Type 0
 Agrees (Number bytes r) = read_number bytes 0 ≡ r
 Agrees (Road bytes number offset) = read_road bytes ≡ RefusedAt number offset
 Agrees (Merge p n m w r f) = (ramp_flow p n m w ≡ r) × (main_flow m p (ramp_flow p n m w) ≡ f)
-Agrees (Split s f d ahead y offY) = (leaving (by s) (most_leaving (by s) f d) ahead ≡ y) × (off (by s) (leaving (by s) (most_leaving (by s) f d) ahead) ≡ offY)
+Agrees (Split s f d ahead y off_y) = (leaving (by s) (most_leaving (by s) f d) ahead ≡ y) × (off (by s) (leaving (by s) (most_leaving (by s) f d) ahead) ≡ off_y)
 Agrees (Most s f d y0) = most_leaving (by s) f d ≡ y0
 Agrees (Study bytes k x) = steps_after (read_road bytes) bytes k ≡ x
 

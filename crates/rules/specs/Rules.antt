@@ -46,15 +46,15 @@ unfoldable pub supply : (entrance capacity jam critical parts : ℕ) → ℕ
 supply e c j q n = min e (min (j - n) (c * (j - n) / (j - q)))
 
 -- r, ramp flow: the smaller of W and the larger of (P − M, zero if negative) and P / (2 × N), N the lanes in force
-unfoldable pub ramp_flow : (supply lanes mainWish ramp_wish : ℕ) → ℕ
+unfoldable pub ramp_flow : (supply lanes main_wish ramp_wish : ℕ) → ℕ
 ramp_flow p n m w = min w (max (p - m) (p / (2 * n)))
 
 -- f, mainline flow at the entrance of a segment: the smaller of M and P − r. At the exit there is no P and no r; Step says f there
-unfoldable pub main_flow : (mainWish supply ramp_flow : ℕ) → ℕ
+unfoldable pub main_flow : (main_wish supply ramp_flow : ℕ) → ℕ
 main_flow m p r = min m (p - r)
 
 -- f and r at the entrance of a segment
-abbrev pub merge : (supply lanes mainWish ramp_wish : ℕ) → Flow
+abbrev pub merge : (supply lanes main_wish ramp_wish : ℕ) → Flow
 merge p n m w = let r = ramp_flow p n m w in record { main = main_flow m p r; ramp = r }
 
 -- y, leaving: the largest y up to Y0 with through(y) at most f(i + 1)

@@ -13,7 +13,7 @@ unfoldable pub sent_of : InForce → Cell → Sent
 sent_of here cell = record { most = outflow (split_of here cell) (most_of here cell); queued = queued_of here cell }
 
 -- f and r, the ramp's queue that is left of those who waited, and whether all entered who wished to by the mainline
-abbrev pub entered : Flow → (mainWish waiting : ℕ) → Entered
+abbrev pub entered : Flow → (main_wish waiting : ℕ) → Entered
 entered flow m waiting = record { main = flow.main; ramp = flow.ramp; queue = waiting - flow.ramp; all = leb m flow.main }
 
 -- f and r of it

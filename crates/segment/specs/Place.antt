@@ -40,7 +40,7 @@ module _ (here : InForce) (cell : Cell) where
   supply_of queued = supply (entrance_of queued) here.capacity here.jam here.critical cell.n
 
   -- f and r, of M and whether a queue stands before the node
-  unfoldable pub inflow_of : (mainWish : ℕ) (queued : Bool) → Flow
+  unfoldable pub inflow_of : (main_wish : ℕ) (queued : Bool) → Flow
   inflow_of m queued = merge (supply_of queued) here.lanes m ramp_wish_of
 
   -- y, of the flow ahead

@@ -70,8 +70,8 @@ letter Service.E = E
 letter Service.F = F
 
 unfoldable pub letter_of : Float → Bool → Letter
-letter_of k anyQueued =
-    if anyQueued then F
+letter_of k any_queued =
+    if any_queued then F
     else if le k (real 11) then A
     else if le k (real 18) then B
     else if le k (real 26) then C
