@@ -3,261 +3,124 @@
 // HEX is bytes in hexadecimal, `-` for none. ROOM is that of the buffer, up to 65,536, which is also the default; PLACE is 0 by default.
 #![tactic(auto)]
 
-ghost use Rattle.std.specs.Prelude.{◌≡◌, length};
-
 use door::Facility;
-use facility::{Reply, SegmentReport, Sums};
-use numbers::Written;
-use records::{Record, say, say_number};
+use input::{CHUNK_ROOM, LINE_ROOM, Lines, STUDY_ROOM};
+use records::FILL;
+use refusals::{Refusal, Refused};
+use std::io;
 use std::io::Write;
-use text::Numeral;
-
-#[derive(Clone, Copy)]
-enum Call {
-    Lay,
-    Take,
-    Run,
-    Report,
-    Totals,
-    WriteRoad,
-    WritePeriod,
-    Other,
-}
-
-// A call that leaves the facility as it is.
-fn reading_of(name: &[u8]) -> Call {
-    if text::same(name, b"report") {
-        return Call::Report;
-    }
-    if text::same(name, b"totals") {
-        return Call::Totals;
-    }
-    if text::same(name, b"write-road") {
-        return Call::WriteRoad;
-    }
-    if text::same(name, b"write-period") {
-        return Call::WritePeriod;
-    }
-    Call::Other
-}
-
-fn call_of(name: &[u8]) -> Call {
-    if text::same(name, b"lay") {
-        return Call::Lay;
-    }
-    if text::same(name, b"take") {
-        return Call::Take;
-    }
-    if text::same(name, b"run") {
-        return Call::Run;
-    }
-    reading_of(name)
-}
-
-fn say_not_a_call<W: Write>(output: &mut W) {
-    say(output, b"not a call");
-}
 
 // What laying or taking gave: the bytes used, or the refusal.
-fn say_used<W: Write>(output: &mut W, r: Reply) -> Facility {
-    if r.refusal == 0 {
-        say_number(output, b"ok used ", r.used as u64);
-    } else {
-        records::say_refused(output, r.refusal, r.offset);
-    }
-    r.facility
-}
-
-// Lays a road, or takes a period sheet.
-fn play_sheet<W: Write>(output: &mut W, f: Facility, is_road: bool, rest: &[u8]) -> Facility {
-    let mut bytes = input::large_buffer();
-    let given = records::only_bytes(rest, &mut bytes);
-    if !given.fine {
-        say_not_a_call(output);
-        return f;
-    }
-    let sheet = &bytes[..given.count];
-    if is_road {
-        return say_used(output, facility::lay(sheet));
-    }
-    say_used(output, facility::take(f, sheet))
-}
-
-fn say_run<W: Write>(output: &mut W, r: Reply) -> Facility {
-    if r.refusal == 0 {
-        say(output, b"ok");
-    } else {
-        records::say_refused(output, r.refusal, r.offset);
-    }
-    r.facility
-}
-
-fn play_run<W: Write>(output: &mut W, f: Facility, rest: &[u8]) -> Facility {
-    match records::only_number(rest) {
-        Numeral::Value(k) => say_run(output, facility::run(f, k)),
-        Numeral::Other => {
-            say_not_a_call(output);
-            f
-        }
+fn say_used<W: Write>(output: &mut W, answer: Result<usize, Refused>) -> io::Result<()> {
+    match answer {
+        Ok(used) => write!(output, "ok used {used}"),
+        Err(refused) => write!(output, "{refused}"),
     }
 }
 
-fn say_report<W: Write>(output: &mut W, r: SegmentReport) {
-    if r.refusal != 0 {
-        records::say_refused(output, r.refusal, 0);
-        return;
-    }
-    say_number(output, b"ok n ", r.n as u64);
-    say_number(output, b" q ", r.q as u64);
-    say_number(output, b" f ", r.main as u64);
-    say_number(output, b" r ", r.ramp as u64);
-    say_number(output, b" off ", r.off as u64);
-    say_number(output, b" y ", r.out as u64);
-    say(output, &[b' ', letters::letter_byte(r.level)]);
+// A refusal that carries no place.
+fn say_refused<W: Write>(output: &mut W, refusal: Refusal) -> io::Result<()> {
+    write!(output, "{}", Refused::from(refusal))
 }
 
-fn play_report<W: Write>(output: &mut W, f: Facility, rest: &[u8]) {
-    match records::only_number(rest) {
-        Numeral::Value(i) => say_report(output, facility::report(f, i)),
-        Numeral::Other => say_not_a_call(output),
-    }
+fn lay<W: Write>(output: &mut W, f: &mut Facility, rest: &[u8]) -> Option<io::Result<()>> {
+    let mut buffer = [0; STUDY_ROOM];
+    let laid = facility::lay(records::only_bytes(rest, &mut buffer)?);
+    *f = laid.facility;
+    Some(say_used(output, laid.answer))
 }
 
-fn say_totals<W: Write>(output: &mut W, r: Sums) {
-    if r.refusal != 0 {
-        records::say_refused(output, r.refusal, 0);
-        return;
-    }
-    say_number(output, b"ok arrived ", r.arrived);
-    say_number(output, b" left ", r.left);
-    say_number(output, b" stored ", r.stored);
-    say_number(output, b" partsteps ", r.partsteps);
+fn take<W: Write>(output: &mut W, f: &mut Facility, rest: &[u8]) -> Option<io::Result<()>> {
+    let mut buffer = [0; STUDY_ROOM];
+    let answer = facility::take(f, records::only_bytes(rest, &mut buffer)?);
+    Some(say_used(output, answer))
 }
 
-fn play_totals<W: Write>(output: &mut W, f: Facility, rest: &[u8]) {
-    let more = text::next_word(rest, 0);
-    if more.start < more.end {
-        say_not_a_call(output);
-        return;
-    }
-    say_totals(output, facility::totals(f));
+fn run<W: Write>(output: &mut W, f: &mut Facility, rest: &[u8]) -> Option<io::Result<()>> {
+    Some(match facility::run(f, records::only_number(rest)?) {
+        Ok(()) => write!(output, "ok"),
+        Err(refusal) => say_refused(output, refusal),
+    })
 }
 
-// A buffer filled with one byte, so that what a writing leaves alone can be told.
-fn filled() -> [u8; 65536]
-    ensures { 65536 ≡ length result }
+fn report<W: Write>(output: &mut W, f: &Facility, rest: &[u8]) -> Option<io::Result<()>> {
+    Some(match facility::report(f, records::only_number(rest)?) {
+        Ok(r) => write!(
+            output,
+            "ok n {} q {} f {} r {} off {} y {} {}",
+            r.n, r.q, r.main, r.ramp, r.off, r.out, r.level
+        ),
+        Err(refusal) => say_refused(output, refusal),
+    })
+}
+
+fn totals<W: Write>(output: &mut W, f: &Facility, rest: &[u8]) -> Option<io::Result<()>> {
+    if text::next_word(rest).is_some() {
+        return None;
+    }
+    Some(match facility::totals(f) {
+        Ok(sums) => write!(
+            output,
+            "ok arrived {} left {} stored {} partsteps {}",
+            sums.arrived, sums.left, sums.stored, sums.partsteps
+        ),
+        Err(refusal) => say_refused(output, refusal),
+    })
+}
+
+// Stays: no plainer. One function for the filled buffers of the programs would take the size, the room, and a closure for what is done with
+// the part and said of it, in the place of four lines.
+// Writes a sheet to a filled buffer of the room and from the place that are left of a record.
+fn write_sheet<W: Write, F: FnOnce(&Facility, &mut [u8], usize) -> Result<usize, Refusal>>(
+    output: &mut W,
+    f: &Facility,
+    rest: &[u8],
+    write: F,
+) -> Option<io::Result<()>>
+    requires { F.IsAlwaysCallable write }
 {
-    [0xAA; 65536]
-}
-
-// The bytes written, or the refusal; and where a byte is altered that had to stay.
-fn say_written<W: Write>(output: &mut W, done: Written, buffer: &[u8], at: usize) {
-    match done {
-        Written::Count(n) => {
-            say(output, b"ok ");
-            records::say_part(output, buffer, at, n);
-            records::say_altered(output, buffer, 0xAA, at, n);
-        }
-        Written::Refused(number) => {
-            records::say_refused(output, number, 0);
-            records::say_altered(output, buffer, 0xAA, 0, 0);
-        }
-    }
-}
-
-fn write<W: Write>(output: &mut W, f: Facility, is_road: bool, buffer: &mut [u8], at: usize) {
-    let done = if is_road {
-        facility::write_road(f, buffer, at)
-    } else {
-        facility::write_period(f, buffer, at)
+    let [room, place] = records::numbers(rest, [STUDY_ROOM as u32, 0])?;
+    let at = place as usize;
+    let mut buffer = [FILL; STUDY_ROOM];
+    let Some(part) = buffer.get_mut(..room as usize) else {
+        return Some(write!(output, "room above {STUDY_ROOM}"));
     };
-    say_written(output, done, buffer, at);
+    let written = write(f, &mut *part, at).map_err(Refused::from);
+    Some(records::say_written(output, written, part, at))
 }
 
-fn play_writing<W: Write>(output: &mut W, f: Facility, is_road: bool, rest: &[u8]) {
-    let given = records::up_to_two(rest, 65536, 0);
-    let room = given.first as usize;
-    if !given.fine {
-        say_not_a_call(output);
-        return;
-    }
-    let mut buffer = filled();
-    if 65536 < room {
-        say(output, b"room above 65536");
-        return;
-    }
-    write(
-        output,
-        f,
-        is_road,
-        &mut buffer[..room],
-        given.second as usize,
-    );
-}
-
-// A call that leaves the facility as it is.
-fn play_reading<W: Write>(output: &mut W, call: Call, f: Facility, rest: &[u8]) {
-    match call {
-        Call::Report => play_report(output, f, rest),
-        Call::Totals => play_totals(output, f, rest),
-        Call::WriteRoad => play_writing(output, f, true, rest),
-        Call::WritePeriod => play_writing(output, f, false, rest),
-        _ => say_not_a_call(output),
+// Answers a record; none where it is no call.
+fn answer<W: Write>(output: &mut W, f: &mut Facility, record: &[u8]) -> Option<io::Result<()>> {
+    let (name, rest) = text::next_word(record)?;
+    match name {
+        b"lay" => lay(output, f, rest),
+        b"take" => take(output, f, rest),
+        b"run" => run(output, f, rest),
+        b"report" => report(output, f, rest),
+        b"totals" => totals(output, f, rest),
+        b"write-road" => write_sheet(output, f, rest, facility::write_road),
+        b"write-period" => write_sheet(output, f, rest, facility::write_period),
+        _ => None,
     }
 }
 
 // Plays a call, and prints its answer.
-fn play<W: Write>(output: &mut W, record: &[u8], f: Facility) -> Facility {
-    let name = text::next_word(record, 0);
-    let call = call_of(&record[name.start..name.end]);
-    let rest = &record[name.end..];
-    match call {
-        Call::Lay => play_sheet(output, f, true, rest),
-        Call::Take => play_sheet(output, f, false, rest),
-        Call::Run => play_run(output, f, rest),
-        _ => {
-            play_reading(output, call, f, rest);
-            f
-        }
-    }
-}
-
-// Plays the call of a line.
-fn play_line<W: Write>(output: &mut W, line: &[u8], next: Record, f: Facility) -> Facility {
-    let from = next.start;
-    let to = next.end;
-    if line.len() < to {
-        return f;
-    }
-    if to < from {
-        return f;
-    }
-    records::say_record(output, &line[from..to]);
-    let g = play(output, &line[from..to], f);
-    say(output, b"\n");
-    g
+fn play<W: Write>(output: &mut W, f: &mut Facility, record: &[u8]) -> io::Result<()> {
+    records::say_answer(
+        output,
+        record,
+        |output| answer(output, f, record),
+        "not a call",
+    )
 }
 
 fn main(rt: HostRuntime) {
-    let mut file = rt.stdin();
-    let mut output = rt.stdout();
-    let mut errors = rt.stderr();
-    let mut chunk = input::buffer();
-    let mut line = input::line_room();
-    let mut next = records::start();
     let mut f = facility::lay(b"").facility;
-    for _ in 0..u64::MAX {
-        next = records::next(
-            &mut file,
-            &mut output,
-            &mut errors,
-            next,
-            &mut chunk,
-            &mut line,
-        );
-        if next.end <= next.start {
-            return;
-        }
-        f = play_line(&mut output, &line, next, f);
-    }
+    records::play_all(
+        &mut Lines::<_, CHUNK_ROOM>::new(&mut rt.stdin()),
+        &mut [0; LINE_ROOM],
+        &mut rt.stdout(),
+        &mut rt.stderr(),
+        |output, record| play(output, &mut f, record),
+    );
 }

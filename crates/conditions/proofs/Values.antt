@@ -1,9 +1,11 @@
 -- Laws of lists of a function's values.
-use Prim.Native.Nat.{ℕ, zero, suc, ◌<◌}
-use mathlib.Core.List.{List, [], ◌∷◌}
-use mathlib.Core.Path.{◌≡◌, refl}
+use Prim.Native.Nat.{ℕ, zero, suc, ◌+◌, ◌<◌}
+use mathlib.Core.List.{List, [], ◌∷◌, ◌++◌, map}
+use mathlib.Core.Path.{◌≡◌, refl, sym}
 use native.Mathlib.Omega.{arith}
-use lib.ListN.{length, get_or}
+use lib.ListN.{length, get_or, set, take}
+use Rattle.std.proofs.Common.{add-one}
+use Rattle.std.proofs.lemmas.List.{take_more_set, map_push}
 use Rattle.conditions.specs.Values.{values_to}
 
 -- read by index
@@ -31,3 +33,17 @@ pub values_length : {A : Type 0} (g : ℕ → A) (k : ℕ) → length (values_to
 unfolding values_to
 values_length g zero = refl
 values_length g (suc k) = rw (values_length (λ i. g (suc i)) k)
+
+-- with one more value
+pub values_more : {A : Type 0} (g : ℕ → A) (k : ℕ) → values_to g (suc k) ≡ values_to g k ++ g k ∷ []
+unfolding values_to
+values_more g zero = refl
+values_more g (suc k) = rw (values_more (λ i. g (suc i)) k)
+
+-- the values of a list's items, with one more item set
+pub values_set : {A B : Type 0} (f : A → B) (g : ℕ → B) (xs : List A) (i : ℕ) (y : A) →
+    i < length xs →
+    f y ≡ g i →
+    map f (take i xs) ≡ values_to g i →
+    map f (take (i + 1) (set xs i y)) ≡ values_to g (i + 1)
+values_set f g xs i y h e r = rw (take_more_set xs i y h, map_push f (take i xs) y, e, r, add-one i) (sym (values_more g i))

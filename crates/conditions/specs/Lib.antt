@@ -1,6 +1,5 @@
 pub mod Values
 pub mod Conditions
 pub mod Shortcuts
-pub mod Puts
-pub mod Row
+pub mod View
 pub mod Good

@@ -1,15 +1,18 @@
-// What is in force while a step is made, worked out once from a road and a period sheet into a row of numbers.
+// What is in force while a step is made, worked out once from a road and a period sheet.
 #![tactic(auto)]
 
-ghost use Rattle.std.specs.Prelude.{◌≡◌, ◌≤◌, ◌<◌, length};
+ghost use Rattle.std.specs.Prelude.{◌≡◌, ◌≤◌, ◌<◌};
+ghost use Rattle.parts.specs.Parts.{road_globals};
 ghost use Rattle.parts.specs.Good.{GoodSegment, GoodRoad, GoodEntry, GoodPeriod};
-ghost use Rattle.conditions.specs.Conditions.{open_capacity, parts_at, lowered_by, in_force, Under, conditions_of, in_force_at};
+ghost use Rattle.conditions.specs.Conditions.{open_capacity, parts_at, lowered_by, in_force, segments, Under, in_force_of, conditions_of};
 ghost use Rattle.conditions.specs.Shortcuts.{easy_below, full_from, shortcuts_of};
 ghost use Rattle.conditions.specs.Good.{GoodGlobals, GoodPlace};
-ghost use Rattle.conditions.specs.Row.{with_in_force, conditions_in, HasShortcuts};
+ghost use Rattle.conditions.specs.View.{conditions_in};
 
-use arithmetic::least;
+mod place;
+
 use parts::{Entry, RoadGlobals, Segment};
+pub use place::{Conditions, Place};
 
 // What is in force at a segment: length L, speed V, the open lanes, the capacity with these, the same lowered behind a queue, the jam J, the
 // critical parts Q, the limit of the ramp (the lesser of R and the meter rate), off-ramp share s, off-ramp capacity F, and ramp demand.
@@ -38,6 +41,7 @@ pub struct Shortcuts {
 }
 
 // C with some of the lanes open. With all of them it is C, and not worked out.
+#[tactic(auto, using(crate::proofs::Good::open_whole), unfolding(crate::specs::Conditions::open_capacity))]
 fn open_capacity(capacity: u32, lanes: u32, opened: u32) -> u32
     requires { (capacity ≤ 20000) × (1 ≤ lanes) × (opened ≤ 8) }
     ensures { result ≡ open_capacity capacity lanes opened }
@@ -49,6 +53,7 @@ fn open_capacity(capacity: u32, lanes: u32, opened: u32) -> u32
 }
 
 // J by the jam density, Q by the density at capacity.
+#[tactic(auto, unfolding(crate::specs::Conditions::parts_at))]
 fn parts_at(density: u32, lanes: u32, length: u32) -> u32
     requires { (density ≤ 300) × (lanes ≤ 8) × (length ≤ 26400) }
     ensures { result ≡ parts_at density lanes length }
@@ -57,6 +62,7 @@ fn parts_at(density: u32, lanes: u32, length: u32) -> u32
 }
 
 // The capacity behind a queue.
+#[tactic(auto, unfolding(crate::specs::Conditions::lowered_by))]
 fn lowered_by(cut: u32, capacity: u32) -> u32
     requires { (cut ≤ 50) × (capacity ≤ 20000) }
     ensures { result ≡ lowered_by cut capacity }
@@ -65,6 +71,7 @@ fn lowered_by(cut: u32, capacity: u32) -> u32
 }
 
 // What is in force at a segment, by the road's globals, the segment and its entry in the sheet.
+#[tactic(auto, using(crate::proofs::Good::open_most), unfolding(crate::specs::Conditions::in_force))]
 fn in_force(g: RoadGlobals, seg: Segment, entry: Entry) -> InForce
     requires { GoodGlobals g × GoodSegment seg × GoodEntry seg entry }
     ensures { result ≡ in_force g seg entry }
@@ -78,7 +85,7 @@ fn in_force(g: RoadGlobals, seg: Segment, entry: Entry) -> InForce
         lowered: lowered_by(g.cut, capacity),
         jam: parts_at(g.jam, entry.opened, seg.length),
         critical: parts_at(g.critical, entry.opened, seg.length),
-        limit: least(seg.onramp, entry.meter),
+        limit: seg.onramp.min(entry.meter),
         share: seg.share,
         offramp: seg.offramp,
         demand: entry.demand,
@@ -86,6 +93,7 @@ fn in_force(g: RoadGlobals, seg: Segment, entry: Entry) -> InForce
 }
 
 // With fewer parts than this neither the room nor the quotient is below C, and P is E.
+#[tactic(auto, unfolding(crate::specs::Shortcuts::easy_below))]
 fn easy_below(jam: u32, critical: u32, capacity: u32) -> u32
     requires { jam ≤ 2880000 }
     ensures { result ≡ easy_below jam critical capacity }
@@ -93,10 +101,11 @@ fn easy_below(jam: u32, critical: u32, capacity: u32) -> u32
     if jam < capacity {
         return 0;
     }
-    least(critical, jam - capacity) + 1
+    critical.min(jam - capacity) + 1
 }
 
 // With as many parts as this D is the lesser of n and C, with fewer it goes by the speed.
+#[tactic(auto, unfolding(crate::specs::Shortcuts::full_from))]
 fn full_from(length: u32, reach: u32, capacity: u32) -> u32
     requires { (length ≤ 26400) × (1 ≤ reach) × (reach ≤ 1870) × (capacity ≤ 20000) }
     ensures { result ≡ full_from length reach capacity }
@@ -108,6 +117,7 @@ fn full_from(length: u32, reach: u32, capacity: u32) -> u32
 }
 
 // The three of what is in force at a segment.
+#[tactic(auto, unfolding(crate::specs::Shortcuts::shortcuts_of))]
 fn shortcuts_of(here: InForce) -> Shortcuts
     requires { GoodPlace here }
     ensures { result ≡ shortcuts_of here }
@@ -120,101 +130,32 @@ fn shortcuts_of(here: InForce) -> Shortcuts
     }
 }
 
-// Puts what is in force at segment i into a row, and its shortcuts.
-fn put_in_force(row: &mut [u32; 835], i: usize, here: InForce)
-    requires { (i < 64) × GoodPlace here }
-    ensures { row.new ≡ with_in_force row.old i here }
+// The place of segment i on a road under a period sheet, counted from 0.
+#[tactic(auto, using(crate::proofs::Good::good_globals, crate::proofs::Good::good_place), unfolding(crate::specs::Conditions::entry_under))]
+fn place_of(g: RoadGlobals, road: &[u32; 452], period: &[u32; 452], i: u32) -> Place
+    requires { GoodRoad road.now × GoodPeriod road.now period.now × (g ≡ road_globals road.now) × (i < segments road.now) }
+    ensures { result.here ≡ in_force_of road.now (Under period.now) i }
 {
-    let at = 3 + 13 * i;
-    let short = shortcuts_of(here);
-    row[at] = here.length;
-    row[at + 1] = short.reach;
-    row[at + 2] = here.lanes;
-    row[at + 3] = here.capacity;
-    row[at + 4] = here.lowered;
-    row[at + 5] = here.jam;
-    row[at + 6] = here.critical;
-    row[at + 7] = here.limit;
-    row[at + 8] = here.share;
-    row[at + 9] = here.offramp;
-    row[at + 10] = here.demand;
-    row[at + 11] = short.easy;
-    row[at + 12] = short.full;
+    let segment = parts::segment_at(road, i);
+    let entry = parts::entry_at(period, i);
+    Place::of(in_force(g, segment, entry))
 }
 
-// A row has 835 numbers: NS, the mainline demand and X, then thirteen for each of up to 64 segments.
-// Works the conditions of a road under a period sheet out into one.
-pub fn work_out(road: &[u32; 452], period: &[u32; 452], row: &mut [u32; 835])
-    requires { GoodRoad road.now × GoodPeriod road.now period.now × (length row.old ≡ 835) }
-    ensures { (conditions_in row.new ≡ conditions_of road.now (Under period.now)) × HasShortcuts row.new }
+// Works the conditions of a road under a period sheet out. Past the last segment the first one's place stands.
+pub fn work_out(road: &[u32; 452], period: &[u32; 452]) -> Conditions
+    requires { GoodRoad road.now × GoodPeriod road.now period.now }
+    ensures { conditions_in result ≡ conditions_of road.now (Under period.now) }
 {
     let g = parts::globals_of_road(road);
     let sheet = parts::globals_of_period(period);
-    let ns = g.segments as usize;
-    row[0] = g.segments;
-    row[1] = sheet.demand;
-    row[2] = sheet.outlet;
-    let mut i: usize = 0;
-    while i < ns {
-        let here = in_force(
-            g,
-            parts::segment_at(road, i as u32),
-            parts::entry_at(period, i as u32),
-        );
-        put_in_force(row, i, here);
-        i += 1;
+    let mut places = [place_of(g, road, period, 0); 64];
+    for i in 1..g.segments {
+        places[i as usize] = place_of(g, road, period, i);
     }
-}
-
-// NS, the mainline demand and X that a row tells.
-pub fn segments_in(row: &[u32; 835]) -> u32
-    ensures { result ≡ (conditions_in row.now).segments }
-{
-    row[0]
-}
-
-pub fn demand_in(row: &[u32; 835]) -> u32
-    ensures { result ≡ (conditions_in row.now).demand }
-{
-    row[1]
-}
-
-pub fn outlet_in(row: &[u32; 835]) -> u32
-    ensures { result ≡ (conditions_in row.now).outlet }
-{
-    row[2]
-}
-
-// What is in force at segment i.
-pub fn in_force_at(row: &[u32; 835], i: usize) -> InForce
-    requires { (i < 64) × (i < (conditions_in row.now).segments) }
-    ensures { result ≡ in_force_at (conditions_in row.now) i }
-{
-    let at = 3 + 13 * i;
-    InForce {
-        length: row[at],
-        speed: row[at + 1] / 22,
-        lanes: row[at + 2],
-        capacity: row[at + 3],
-        lowered: row[at + 4],
-        jam: row[at + 5],
-        critical: row[at + 6],
-        limit: row[at + 7],
-        share: row[at + 8],
-        offramp: row[at + 9],
-        demand: row[at + 10],
-    }
-}
-
-// Its shortcuts.
-pub fn shortcuts_at(row: &[u32; 835], i: usize) -> Shortcuts
-    requires { (i < 64) × (i < (conditions_in row.now).segments) × HasShortcuts row.now }
-    ensures { result ≡ shortcuts_of (in_force_at (conditions_in row.now) i) }
-{
-    let at = 3 + 13 * i;
-    Shortcuts {
-        reach: row[at + 1],
-        easy: row[at + 11],
-        full: row[at + 12],
+    Conditions {
+        segments: g.segments,
+        demand: sheet.demand,
+        outlet: sheet.outlet,
+        places,
     }
 }

@@ -6,8 +6,8 @@ use mathlib.Core.List.{List}
 use native.Mathlib.Omega.{arith}
 use lib.ListN.{get_or}
 use lib.Dec.{ltb}
-use borrow.Author.Tests.{ltb-true, ltb-false, le-ltb}
-use Rattle.std.specs.Prelude.{if◌then◌else◌}
+use borrow.Author.Tests.{ltb-true, ltb-false, lt-ltb, le-ltb}
+use Rattle.std.specs.Prelude.{if◌then◌else◌, Option, Some, None, MatchOption}
 use Rattle.numbers.specs.Number.{Bytes}
 use Rattle.numbers.specs.Row.{ReadRow, RefusedAt}
 use Rattle.sheets.specs.declared.Layout.TheVariants.{Period}
@@ -17,9 +17,9 @@ use Rattle.sheets.proofs.Ranges.{period_first, period_later, entry_open}
 use Rattle.sheets.proofs.Round.{row_first, period_ranged}
 use Rattle.convert.specs.declared.Way.{Way}
 use Rattle.convert.specs.declared.Way.TheVariants.{ToSecond, ToFirst}
-use Rattle.convert.specs.Sheet.{converted_row, first_closed, open_lanes_place, converted_from}
+use Rattle.convert.specs.Sheet.{layout_from, converted_row, first_closed, open_lanes_place, converted_from}
 use Rattle.convert.specs.Statement.{ClosedLane}
-use Rattle.convert.proofs.Rows.{Laned, layout_from, at_place, Open}
+use Rattle.convert.proofs.Rows.{Laned, at_place, Open}
 
 -- all of so many segments from i on have their lanes open
 abbrev Whole : (road second : List ℕ) (left i : ℕ) → Type 0
@@ -51,6 +51,23 @@ module _ (road second : List ℕ) where
   none_found zero i h = λ j l m. absurd (omega arith)
   none_found (suc left) i h = closed_step left i (ltb (opened_of second i) (lanes_of road i)) refl (none_found left (i + 1)) h
 
+  -- and where n is the first, it is n
+  none_before : (left i n : ℕ) → i ≤ n → n < i + left → opened_of second n < lanes_of road n → ((j : ℕ) → i ≤ j → j < n → lanes_of road j ≤ opened_of second j)
+      → first_closed road second left i ≡ n
+  unfolding first_closed
+  none_before zero i n h inside closed before = absurd (omega arith)
+  none_before (suc left) i n h inside closed before =
+      by (ltb i n) refl (λ l. none_before left (i + 1) n (omega arith) (omega arith) closed (λ j k m. before j (omega arith) m))
+    where
+      by : (t : Bool) → ltb i n ≡ t → (i < n → first_closed road second left (i + 1) ≡ n)
+          → (if ltb (opened_of second i) (lanes_of road i) then i else first_closed road second left (i + 1)) ≡ n
+      by true t ih =
+          let l = ltb-true i n t in
+          rw (le-ltb (opened_of second i) (lanes_of road i) (before i (omega arith) l)) (ih l)
+      by false t ih =
+          let e : n ≡ i = omega (arith, ltb-false i n t) in
+          rw (lt-ltb (opened_of second i) (lanes_of road i) (rw e at closed), e)
+
   none_there : (left i : ℕ) → Whole road second left i → first_closed road second left i ≡ i + left
   unfolding first_closed
   none_there zero i h = omega arith
@@ -75,6 +92,14 @@ module _ (road second : List ℕ) where
   unfolding first_closed
   found zero i h = absurd (omega arith)
   found (suc left) i h = found_step left i (ltb (opened_of second i) (lanes_of road i)) refl (found left (i + 1)) h
+
+-- a search over the segments in order finds it
+pub first_is : (road second : List ℕ) (ns : ℕ) (r : Option ℕ)
+    → MatchOption r ((k : ℕ) → 0 ≤ k → k < ns → lanes_of road k ≤ opened_of second k)
+    (λ i. (0 ≤ i) × (i < ns) × (opened_of second i < lanes_of road i) × ((k : ℕ) → 0 ≤ k → k < i → lanes_of road k ≤ opened_of second k))
+    → MatchOption r (first_closed road second ns 0 ≡ ns) (λ i. (i < ns) × (first_closed road second ns 0 ≡ i))
+first_is road second ns None h = omega (arith, none_there road second ns 0 (λ j l m. h j l (omega arith)))
+first_is road second ns (Some i) h = (h.1, none_before road second ns 0 i h.0 (omega (arith, h.1)) h.2 h.3)
 
 -- a period's road has at most 64 segments
 pub period_few : (road second : List ℕ) → RowOf (Period (get_or road 0 0)) road second → get_or road 0 0 ≤ 64

@@ -5,6 +5,7 @@ use mathlib.Core.List.{List, [], ◌∷◌, ◌++◌, map}
 use native.Mathlib.Omega.{arith}
 use lib.ListN.{length, take, drop, get_or, take-append-drop}
 use lib.Seq.{take_at}
+use Rattle.std.proofs.lemmas.List.{length-map}
 use Rattle.numbers.specs.Number.{Bytes}
 use Rattle.numbers.proofs.Round.{bytes_both}
 use Rattle.numbers.specs.Row.{Rows, ReadRow, RefusedAt}
@@ -20,13 +21,13 @@ use Rattle.parts.specs.Good.{GoodRoad}
 use Rattle.parts.proofs.Good.{good_road, read_road_allowed}
 use Rattle.convert.specs.declared.Way.{Way}
 use Rattle.convert.specs.declared.Way.TheVariants.{ToSecond, ToFirst}
-use Rattle.convert.specs.Sheet.{layout_to, converted_row, converted_by, converted_sheet}
+use Rattle.convert.specs.Sheet.{layout_from, layout_to, converted_row, converted_by, converted_sheet}
 use Rattle.convert.specs.Convert.{Sheets, AllSheets, RefusedSheet, sheets_from, Converted, behind, converted_on, conversion_of}
 use Rattle.convert.specs.Statement.{EverySheet, back_of, ReadWhole, Faithful, BackExactly}
-use Rattle.convert.proofs.Rows.{Laned, layout_from, Open, converted_row_lem, converted_back_open, row_again}
+use Rattle.convert.proofs.Rows.{Laned, Open, converted_row_lem, converted_back_open, row_again}
 use Rattle.convert.proofs.Closed.{converted_is, converted_open_back, converted_read}
 use Rattle.convert.proofs.Sheets.{Sheeted, end, more, sheeted, all_sheets, sheets_back, sheets_written}
-use Rattle.convert.proofs.Walking.{sheet_in_lem}
+use Rattle.convert.proofs.Read.{sheet_in_lem}
 
 -- a road that was read has lanes
 good_laned : (road : List ℕ) → GoodRoad road → Laned road
@@ -161,10 +162,6 @@ map_again : (f g : List ℕ → List ℕ) (P : List ℕ → Type 0) → ((row : 
 map_again f g P h [] e = refl
 map_again f g P h (row ∷ rows) e = rw (h row e.0, map_again f g P h rows e.1)
 
-length_map : (f : List ℕ → List ℕ) (rows : List (List ℕ)) → length (map f rows) ≡ length rows
-length_map f [] = refl
-length_map f (row ∷ rows) = ap suc (length_map f rows)
-
 layout_back : (way : Way) (ns : ℕ) → layout_from (back_of way) ns ≡ layout_to way ns
 layout_back ToSecond ns = refl
 layout_back ToFirst ns = refl
@@ -224,7 +221,7 @@ module _ (way : Way) (bytes out : List ℕ) (by : Bytes bytes) (s : Study way by
       let l = layout_to way (get_or land 0 0) in
       let fine = every_both (RowOf l land) Fitting others others_rows fits in
       sheeted_as (read_row l land) (take s.used bytes ++ rows_bytes others) out 96 (length (take s.used bytes)) s.used others (sym s.result) road_size
-      (sheets_written l land others (take s.used bytes) 96 fine (omega (arith, length_map (converted_row way land) s.rows, rest.2)))
+      (sheets_written l land others (take s.used bytes) 96 fine (omega (arith, length-map s.rows (converted_row way land), rest.2)))
 
   -- which is a study that converts back
   rows_again : map (converted_row (back_of way) land) others ≡ s.rows

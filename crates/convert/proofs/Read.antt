@@ -1,23 +1,28 @@
 -- A sheet that is read and converted, as the code has it: the row with zeros after it.
-use Prim.Native.Nat.{ℕ, zero, suc, ◌+◌, ◌-◌, ◌*◌, ◌≤◌, ◌<◌}
+use Prim.Native.Nat.{ℕ, zero, suc, ◌+◌, ◌-◌, ◌*◌, ◌≤◌}
 use mathlib.Core.Path.{◌≡◌, refl, sym, ap, ◌∙◌}
 use mathlib.Core.List.{List, [], ◌∷◌, ◌++◌}
 use native.Mathlib.Omega.{arith}
-use lib.ListN.{length, get_or, replicate}
+use lib.ListN.{length, get_or, take, replicate}
+use mathlib.Core.Bool.{Bool, true, false}
+use lib.Dec.{ltb}
+use Rattle.std.specs.Prelude.{if◌then◌else◌}
 use lib.Seq.{take-append-le}
-use borrow.Author.Tests.{lt-ltb, le-ltb}
+use borrow.Author.Tests.{ltb-true}
 use Rattle.numbers.specs.Row.{Rows, ReadRow, RefusedAt}
-use Rattle.numbers.proofs.Rows.{NamedRow}
-use Rattle.sheets.specs.declared.Layout.TheVariants.{Period, FirstPeriod}
-use Rattle.sheets.specs.declared.SheetReading.{SheetReading}
-use Rattle.sheets.specs.Layout.{count_of, RowOf}
-use Rattle.sheets.specs.Read.{read_period, read_first_period, padded, sheet_reading}
-use Rattle.sheets.proofs.Refusals.{named_row}
-use Rattle.sheets.proofs.Round.{period_ranged}
+use Rattle.sheets.specs.declared.Layout.TheVariants.{FirstPeriod}
+use Rattle.sheets.specs.Layout.{range_of, count_of, RowOf}
+use Rattle.sheets.proofs.Ranges.{period_first, first_start}
+use Rattle.convert.proofs.Rows.{at_place}
+use Rattle.sheets.specs.Read.{read_row, read_period, read_first_period, padded}
+use Rattle.sheets.specs.Write.{row_bytes}
+use Rattle.sheets.proofs.Round.{row_ranged}
 use Rattle.conditions.proofs.Values.{values_same}
 use Rattle.convert.specs.declared.Way.{Way}
 use Rattle.convert.specs.declared.Way.TheVariants.{ToSecond, ToFirst}
-use Rattle.convert.specs.Sheet.{number_in_second, number_in_first, number_to, layout_to, converted_row, first_closed, open_lanes_place, converted_from, converted_by, sheet_in, converted_sheet}
+use Rattle.numbers.specs.Filled.{filled}
+use Rattle.numbers.proofs.Rows.{filled_read, filled_refused}
+use Rattle.convert.specs.Sheet.{layout_from, number_in_second, number_in_first, number_to, layout_to, converted_row, first_closed, open_lanes_place, converted_from, converted_by, sheet_in, converted_sheet}
 use Rattle.convert.proofs.Closed.{period_few}
 
 -- ---- zeros after a row do not matter
@@ -48,89 +53,58 @@ unfolding first_closed
 closed_padded road row zero i = refl
 closed_padded road row (suc left) i = rw (padded_at row, closed_padded road row left (i + 1))
 
--- ---- a reading as the code has it, back
-pub read_by : (r : Rows) (sheet : SheetReading) → sheet ≡ sheet_reading r → NamedRow r → sheet.refusal ≡ 0
-    → (row : List ℕ) × (used : ℕ) × (r ≡ ReadRow row used) × (sheet.row ≡ padded row) × (sheet.used ≡ used)
-unfolding sheet_reading
-read_by (ReadRow row used) sheet is named z =
-    (row, used, refl, ap (λ (s : SheetReading). s.row) is, ap (λ (s : SheetReading). s.used) is)
-read_by (RefusedAt number offset) sheet is named z = absurd (omega (arith, named, ap (λ (s : SheetReading). s.refusal) is))
+-- ---- nor when a sheet that was read is converted
+module _ (road row : List ℕ) (used : ℕ) where
+  by_closed : (t : Bool) (n : ℕ) → (t ≡ true → 3 + 3 * n + 2 ≤ length row)
+      → filled 452 (if t then RefusedAt 16 (length (row_bytes (take (3 + 3 * n + 2) (padded row)))) else ReadRow (converted_row ToFirst road (padded row)) used)
+      ≡ filled 452 (if t then RefusedAt 16 (length (row_bytes (take (3 + 3 * n + 2) row))) else ReadRow (converted_row ToFirst road row) used)
+  by_closed true n inside = rw (take-append-le (3 + 3 * n + 2) row (replicate (452 - length row) 0) (inside refl))
+  by_closed false n inside = rw (converted_padded ToFirst road row)
 
-pub refused_by : (r : Rows) (sheet : SheetReading) → sheet ≡ sheet_reading r → (sheet.refusal ≡ 0 → ⊥) → r ≡ RefusedAt sheet.refusal sheet.offset
-unfolding sheet_reading
-refused_by (ReadRow row used) sheet is n = absurd (n (ap (λ (s : SheetReading). s.refusal) is))
-refused_by (RefusedAt number offset) sheet is n =
-    let a = ap (λ (s : SheetReading). s.refusal) is in
-    let b = ap (λ (s : SheetReading). s.offset) is in
-    rw (a, b)
+  from_padded : (way : Way) → get_or road 0 0 ≤ 64 → length row ≡ count_of (layout_from way (get_or road 0 0))
+      → filled 452 (converted_from way road (padded row) used) ≡ filled 452 (converted_from way road row used)
+  unfolding converted_from open_lanes_place count_of
+  from_padded ToSecond few size = rw (converted_padded ToSecond road row)
+  from_padded ToFirst few size =
+      let ns = get_or road 0 0 in
+      rw (closed_padded road row ns 0) (by_closed (ltb (first_closed road row ns 0) ns) (first_closed road row ns 0) (λ t. omega (arith, ltb-true _ _ t)))
 
-sheet_named : (way : Way) (road bytes : List ℕ) → NamedRow (sheet_in way road bytes)
+-- a sheet in the layout that the study has
+pub sheet_in_lem : (way : Way) (road bytes : List ℕ) → sheet_in way road bytes ≡ read_row (layout_from way (get_or road 0 0)) road bytes
 unfolding read_first_period read_period
-sheet_named ToSecond road bytes = named_row (FirstPeriod (get_or road 0 0)) road bytes
-sheet_named ToFirst road bytes = named_row (Period (get_or road 0 0)) road bytes
+sheet_in_lem ToSecond road bytes = refl
+sheet_in_lem ToFirst road bytes = refl
 
--- a sheet that is not read is not converted
-pub not_read : (way : Way) (road bytes : List ℕ) (sheet : SheetReading) → sheet ≡ sheet_reading (sheet_in way road bytes) → (sheet.refusal ≡ 0 → ⊥)
-    → sheet ≡ sheet_reading (converted_sheet way road bytes)
-unfolding converted_sheet
-not_read way road bytes sheet is n =
-    let r = refused_by (sheet_in way road bytes) sheet is n in
-    is ∙ rw (r)
+-- NS of a road whose sheets are read
+few_of : (way : Way) (road row : List ℕ) → RowOf (layout_from way (get_or road 0 0)) road row → get_or road 0 0 ≤ 64
+unfolding range_of count_of
+few_of ToSecond road row r =
+    let h = rw (first_start (get_or road 0 0) road 0 (omega arith), period_first (get_or road 0 0) road 0 refl) at (at_place (FirstPeriod (get_or road 0 0)) road row r 0 (omega arith)) in
+    omega (arith, h.0, h.1)
+few_of ToFirst road row r = period_few road row r
 
--- ---- one that is read: its row with zeros after it is given
-abbrev reading_of : (used : ℕ) (row : List ℕ) → SheetReading
-reading_of used row = record { refusal = 0; offset = 0; used = used; row = row }
+-- ---- the reading of a sheet, as the code has it
+module _ (way : Way) (road bytes : List ℕ) where
+  abbrev reading : Rows
+  reading = read_row (layout_from way (get_or road 0 0)) road bytes
 
-module _ (road row : List ℕ) (used : ℕ) (r : Rows) (given : List ℕ) (read : r ≡ ReadRow row used) (is : given ≡ padded row) where
-  second_from : (other : List ℕ) → other ≡ padded (converted_row ToSecond road given) → reading_of used other ≡ sheet_reading (converted_by ToSecond road r)
-  unfolding converted_from sheet_reading
-  second_from other o = rw (read, o, is, converted_padded ToSecond road row)
+  pub unread : (number offset : ℕ) → RefusedAt number offset ≡ filled 452 reading → RefusedAt number offset ≡ filled 452 (converted_sheet way road bytes)
+  unfolding converted_sheet filled
+  unread number offset e = rw (sheet_in_lem way road bytes, filled_refused 452 reading number offset e)
 
-  closed_is : (i : ℕ) → i ≡ first_closed road given (get_or road 0 0) 0 → first_closed road row (get_or road 0 0) 0 ≡ i
-  closed_is i e = sym (e ∙ ap (λ (s : List ℕ). first_closed road s (get_or road 0 0) 0) is ∙ closed_padded road row (get_or road 0 0) 0)
+  module _ (given : List ℕ) (used : ℕ) (e : ReadRow given used ≡ filled 452 reading) where
+    got : (row : List ℕ) × (reading ≡ ReadRow row used) × (given ≡ padded row)
+    got = filled_read 452 reading given used e
 
-  closed_from : (i : ℕ) → i ≡ first_closed road given (get_or road 0 0) 0 → i < get_or road 0 0 → 3 + 3 * i + 2 ≤ length row
-      → sheet_reading (RefusedAt 16 (open_lanes_place given i)) ≡ sheet_reading (converted_by ToFirst road r)
-  unfolding converted_from open_lanes_place
-  closed_from i e h inside =
-      rw (read, closed_is i e, lt-ltb i (get_or road 0 0) h, is, take-append-le (3 + 3 * i + 2) row (replicate (452 - length row) 0) inside)
+    ranged : RowOf (layout_from way (get_or road 0 0)) road got.0
+    ranged = row_ranged (layout_from way (get_or road 0 0)) road bytes got.0 used got.1
 
-  open_from : (i : ℕ) (other : List ℕ) → i ≡ first_closed road given (get_or road 0 0) 0 → get_or road 0 0 ≤ i → other ≡ padded (converted_row ToFirst road given)
-      → reading_of used other ≡ sheet_reading (converted_by ToFirst road r)
-  unfolding converted_from sheet_reading
-  open_from i other e h o = rw (read, closed_is i e, le-ltb i (get_or road 0 0) h, o, is, converted_padded ToFirst road row)
+    pub few : get_or road 0 0 ≤ 64
+    few = few_of way road got.0 ranged
 
--- to the second layout
-pub second_read : (road bytes : List ℕ) (sheet : SheetReading) (other : List ℕ) → sheet ≡ sheet_reading (read_first_period road bytes) → sheet.refusal ≡ 0
-    → other ≡ padded (converted_row ToSecond road sheet.row) → reading_of sheet.used other ≡ sheet_reading (converted_sheet ToSecond road bytes)
-unfolding converted_sheet
-second_read road bytes sheet other is z o =
-    let g = read_by (read_first_period road bytes) sheet is (sheet_named ToSecond road bytes) z in
-    ap (λ (n : ℕ). reading_of n other) g.4 ∙ second_from road g.0 g.1 (read_first_period road bytes) sheet.row g.2 g.3 other o
-
--- to the first: NS is at most 64, and where a lane is closed its number stands within the row
-module _ (road bytes : List ℕ) (sheet : SheetReading) (is : sheet ≡ sheet_reading (read_period road bytes)) (z : sheet.refusal ≡ 0) where
-  got : (row : List ℕ) × (used : ℕ) × (read_period road bytes ≡ ReadRow row used) × (sheet.row ≡ padded row) × (sheet.used ≡ used)
-  got = read_by (read_period road bytes) sheet is (sheet_named ToFirst road bytes) z
-
-  ranged : RowOf (Period (get_or road 0 0)) road got.0
-  ranged = (period_ranged road bytes got.0 got.1 got.2).0
-
-  pub few : get_or road 0 0 ≤ 64
-  few = period_few road got.0 ranged
-
-  pub closed_few : (i : ℕ) → i < get_or road 0 0 → i < 64
-  closed_few i h = omega (arith, few)
-
-  pub closed_read : (i : ℕ) → i ≡ first_closed road sheet.row (get_or road 0 0) 0 → i < get_or road 0 0
-      → sheet_reading (RefusedAt 16 (open_lanes_place sheet.row i)) ≡ sheet_reading (converted_sheet ToFirst road bytes)
-  unfolding converted_sheet count_of
-  closed_read i e h =
-      closed_from road got.0 got.1 (read_period road bytes) sheet.row got.2 got.3 i e h (omega (arith, ranged.0, few))
-
-  pub open_read : (i : ℕ) (other : List ℕ) → i ≡ first_closed road sheet.row (get_or road 0 0) 0 → get_or road 0 0 ≤ i
-      → other ≡ padded (converted_row ToFirst road sheet.row) → reading_of sheet.used other ≡ sheet_reading (converted_sheet ToFirst road bytes)
-  unfolding converted_sheet
-  open_read i other e h o =
-      ap (λ (n : ℕ). reading_of n other) got.4
-      ∙ open_from road got.0 got.1 (read_period road bytes) sheet.row got.2 got.3 i other e h o
+    pub was_read : filled 452 (converted_from way road given used) ≡ filled 452 (converted_sheet way road bytes)
+    unfolding converted_sheet
+    was_read =
+        ap (λ (row : List ℕ). filled 452 (converted_from way road row used)) got.2
+        ∙ from_padded road got.0 used way few ranged.0
+        ∙ sym (ap (λ (r : Rows). filled 452 (converted_by way road r)) (sheet_in_lem way road bytes ∙ got.1))

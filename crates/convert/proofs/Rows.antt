@@ -17,7 +17,7 @@ use Rattle.sheets.proofs.Ranges.{period_later, entry_flow, entry_open, first_sta
 use Rattle.conditions.proofs.Values.{values_at, values_are, values_length}
 use Rattle.convert.specs.declared.Way.{Way}
 use Rattle.convert.specs.declared.Way.TheVariants.{ToSecond, ToFirst}
-use Rattle.convert.specs.Sheet.{number_in_second, number_in_first, number_to, layout_to, converted_row}
+use Rattle.convert.specs.Sheet.{number_in_second, number_in_first, number_to, layout_from, layout_to, converted_row}
 use Rattle.convert.specs.Statement.{NoneClosed, back_of}
 
 -- ---- the numbers, by the place
@@ -35,11 +35,6 @@ by_first P k start flow a b = choose P (ltb k 3) start flow (λ t. a (ltb-true k
 pub record Laned (road : List ℕ) : Type 0 where
   pub segments : (1 ≤ get_or road 0 0) × (get_or road 0 0 ≤ 64)
   pub lanes : (i : ℕ) → i < get_or road 0 0 → (1 ≤ lanes_of road i) × (lanes_of road i ≤ 8)
-
--- the layout that a study has, by where the conversion leads
-abbrev pub layout_from : Way → ℕ → Layout
-layout_from ToSecond ns = FirstPeriod ns
-layout_from ToFirst ns = Period ns
 
 -- the number at a place of a row is in the range of its place
 pub at_place : (l : Layout) (road row : List ℕ) → RowOf l road row → (k : ℕ) → k < count_of l → In (range_of l road k) (get_or row k 0)

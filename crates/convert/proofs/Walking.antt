@@ -11,31 +11,29 @@ use Rattle.numbers.specs.Row.{Rows, ReadRow, RefusedAt}
 use Rattle.numbers.specs.Writing.{write_into}
 use Rattle.numbers.proofs.Writings.{written}
 use Rattle.numbers.proofs.Choices.{choose}
-use Rattle.numbers.proofs.Rows.{NamedRow}
-use Rattle.sheets.specs.declared.SheetReading.{SheetReading}
 use Rattle.sheets.specs.Layout.{count_of}
-use Rattle.sheets.specs.Read.{read_row, read_period, read_first_period, padded, sheet_reading}
+use Rattle.sheets.specs.Read.{read_row, padded}
 use Rattle.sheets.specs.Write.{row_bytes, rows_bytes}
 use Rattle.sheets.proofs.Ranges.{count_most}
-use Rattle.sheets.proofs.Refusals.{named_row}
 use Rattle.sheets.proofs.Round.{row_ranged}
 use Rattle.sheets.proofs.Turns.{row_most, put_more, length_part}
 use Rattle.sheets.proofs.Within.{RowWithin, row_within}
 use Rattle.convert.specs.declared.Way.{Way}
 use Rattle.convert.specs.declared.Way.TheVariants.{ToSecond, ToFirst}
-use Rattle.convert.specs.declared.Walked.{Walked}
-use Rattle.convert.specs.Sheet.{layout_to, converted_row, first_closed, open_lanes_place, converted_from, converted_by, sheet_in, converted_sheet}
-use Rattle.convert.specs.Convert.{Sheets, AllSheets, RefusedSheet, onto_sheets, and_sheets, sheets_from, Conversion, Converted, Unconverted, behind}
-use Rattle.convert.specs.Walked.{walked_of, Filled}
-use Rattle.convert.proofs.Rows.{layout_from, converted_length}
+use Rattle.convert.specs.Sheet.{layout_from, layout_to, converted_row, first_closed, open_lanes_place, converted_from, converted_by, sheet_in, converted_sheet}
+use Rattle.convert.specs.Convert.{Sheets, AllSheets, RefusedSheet, onto_sheets, and_sheets, sheets_from, Conversion, Converted, Unconverted, behind, Written, RefusedAs}
+use Rattle.numbers.specs.Filled.{filled}
+use Rattle.numbers.proofs.Rows.{filled_refused}
+use Rattle.convert.specs.Walked.{walked_of, Filled, placed_rows}
+use Rattle.convert.proofs.Rows.{converted_length}
 use Rattle.convert.proofs.Closed.{converted_is}
-use Rattle.convert.proofs.Read.{read_by, refused_by}
+use Rattle.convert.proofs.Read.{sheet_in_lem}
 use Rattle.convert.proofs.Sheets.{from_more, from_full, from_end}
 
--- ---- a sheet that is converted stays within its bytes, or the bytes of its row, of which there are at most 5 × 452; its refusal has a number
+-- ---- a sheet that is converted stays within its bytes, or the bytes of its row, of which there are at most 5 × 452
 abbrev Near : ℕ → Rows → Type 0
 Near m (ReadRow row used) = used ≤ m
-Near m (RefusedAt number offset) = (1 ≤ number) × (offset ≤ m + 2260)
+Near m (RefusedAt number offset) = offset ≤ m + 2260
 
 place_most : (row : List ℕ) (i : ℕ) → length row ≤ 452 → open_lanes_place row i ≤ 2260
 unfolding open_lanes_place
@@ -46,37 +44,37 @@ unfolding converted_from
 converted_near ToSecond road row used m u h = u
 converted_near ToFirst road row used m u h =
     let closed = first_closed road row (get_or road 0 0) 0 in
-    choose (Near m) (ltb closed (get_or road 0 0)) (RefusedAt 16 _) (ReadRow (converted_row ToFirst road row) used) (λ t. (omega arith, omega (arith, place_most row closed h))) (λ t. u)
+    choose (Near m) (ltb closed (get_or road 0 0)) (RefusedAt 16 _) (ReadRow (converted_row ToFirst road row) used) (λ t. omega (arith, place_most row closed h)) (λ t. u)
 
-by_near : (way : Way) (road : List ℕ) (m : ℕ) (r : Rows) → NamedRow r → RowWithin m r → ((row : List ℕ) (used : ℕ) → r ≡ ReadRow row used → length row ≤ 452)
-    → Near m (converted_by way road r)
-by_near way road m (ReadRow row used) n w h = converted_near way road row used m w (h row used refl)
-by_near way road m (RefusedAt number offset) n w h = (n, omega arith)
-
--- a sheet in the layout that the study has
-pub sheet_in_lem : (way : Way) (road bytes : List ℕ) → sheet_in way road bytes ≡ read_row (layout_from way (get_or road 0 0)) road bytes
-unfolding read_first_period read_period
-sheet_in_lem ToSecond road bytes = refl
-sheet_in_lem ToFirst road bytes = refl
+by_near : (way : Way) (road : List ℕ) (m : ℕ) (r : Rows) → RowWithin m r → ((row : List ℕ) (used : ℕ) → r ≡ ReadRow row used → length row ≤ 452) → Near m (converted_by way road r)
+by_near way road m (ReadRow row used) w h = converted_near way road row used m w (h row used refl)
+by_near way road m (RefusedAt number offset) w h = omega arith
 
 sheet_near : (way : Way) (road s : List ℕ) → Near (length s) (converted_sheet way road s)
 unfolding converted_sheet
 sheet_near way road s =
     let l = layout_from way (get_or road 0 0) in
     rw (sheet_in_lem way road s)
-    (by_near way road (length s) (read_row l road s) (named_row l road s) (row_within l road s)
-    (λ row used e. omega (arith, (row_ranged l road s row used e).0, count_most l)))
-
-near_named : (m : ℕ) (r : Rows) → Near m r → NamedRow r
-near_named m (ReadRow row used) h = omega arith
-near_named m (RefusedAt number offset) h = h.0
-
-pub converted_named : (way : Way) (road s : List ℕ) → NamedRow (converted_sheet way road s)
-converted_named way road s = near_named (length s) (converted_sheet way road s) (sheet_near way road s)
+    (by_near way road (length s) (read_row l road s) (row_within l road s) (λ row used e. omega (arith, (row_ranged l road s row used e).0, count_most l)))
 
 converted_size : (way : Way) (road : List ℕ) (r : Rows) (row : List ℕ) (used : ℕ) → converted_by way road r ≡ ReadRow row used → length row ≡ count_of (layout_to way (get_or road 0 0))
 converted_size way road (RefusedAt number offset) row used e = absurd (let z : ◌≡◌ {A = ℕ} 0 1 = cc in omega arith)
 converted_size way road (ReadRow from n) row used e = ap length (converted_is way road from n row used e).0 ∙ converted_length way road from
+
+-- the offset of its refusal
+pub place_near : (way : Way) (road s : List ℕ) (number offset : ℕ) → RefusedAt number offset ≡ filled 452 (converted_sheet way road s) → offset ≤ length s + 2260
+place_near way road s number offset e = rw (filled_refused 452 (converted_sheet way road s) number offset e) at (sheet_near way road s)
+
+-- the reading of one at a place, as the code has it, back
+row_back : (at : ℕ) (r : Rows) (given : List ℕ) (used : ℕ) → ReadRow given used ≡ placed_rows at (filled 452 r) → (row : List ℕ) × (r ≡ ReadRow row used) × (given ≡ padded row)
+unfolding filled placed_rows
+row_back at (ReadRow row n) given used e = (row, cc, cc)
+row_back at (RefusedAt a b) given used e = absurd (let z : ◌≡◌ {A = ℕ} 0 1 = cc in omega arith)
+
+refusal_back : (at : ℕ) (r : Rows) (number place : ℕ) → RefusedAt number place ≡ placed_rows at (filled 452 r) → (offset : ℕ) × (r ≡ RefusedAt number offset) × (place ≡ at + offset)
+unfolding filled placed_rows
+refusal_back at (ReadRow row n) number place e = absurd (let z : ◌≡◌ {A = ℕ} 0 1 = cc in omega arith)
+refusal_back at (RefusedAt a b) number place e = (b, cc, cc)
 
 -- ---- behind what stands there, one sheet more
 behind_more : (part row : List ℕ) (s : Sheets) → behind part (onto_sheets row s) ≡ behind (part ++ row_bytes row) s
@@ -128,19 +126,16 @@ turn_start way study road lent start copy h is len =
       put = λ fits. copy_again lent (take start study) copy is (omega (arith, len));
     }
 
--- a refusal says nothing of what was lent
-pub refused_walk : (x : Conversion) (number offset : ℕ) (r : Walked) (lent after : List ℕ) → x ≡ Unconverted number offset → r ≡ walked_of (Unconverted number offset)
-    → (r ≡ walked_of x) × Filled x lent after
-refused_walk x number offset r lent after e is = rw e (is, tt)
-
 module _ (way : Way) (study road before : List ℕ) (start : ℕ) (out : List ℕ) (at count left : ℕ) (t : Turn way study road before start out at count left) where
   abbrev all : Conversion
   all = behind (take start study) (sheets_from (converted_sheet way road) 96 study start)
 
   -- a 97th sheet
-  pub turn_full : left ≡ 0 → at < length study → all ≡ Unconverted 13 at
+  pub turn_full : (lent : List ℕ) → left ≡ 0 → at < length study → (RefusedAs 13 at ≡ walked_of all) × Filled all lent out
   unfolding behind
-  turn_full z h = t.whole ∙ rw (z, from_full (converted_sheet way road) study at h)
+  turn_full lent z h =
+      let e : all ≡ Unconverted 13 at = t.whole ∙ rw (z, from_full (converted_sheet way road) study at h) in
+      rw e (refl, tt)
 
   -- the end of the study
   turn_end : length study ≤ at → all ≡ Converted t.done
@@ -148,7 +143,7 @@ module _ (way : Way) (study road before : List ℕ) (start : ℕ) (out : List �
   turn_end h = t.whole ∙ rw (from_end (converted_sheet way road) study left at h, append-nil)
 
   pub turn_last : (lent : List ℕ) → start ≤ length study → before ≡ write_into lent 0 (take start study) → length before ≡ length lent → length study ≤ at
-      → (record { refusal = 0; offset = 0; count = count } ≡ walked_of all) × Filled all lent out
+      → (Written count ≡ walked_of all) × Filled all lent out
   turn_last lent long is len h =
       let size : length (take start study) ≡ start = length-take-le start study long in
       let filled : length t.done ≤ length lent → out ≡ t.done ++ drop (length t.done) lent =
@@ -157,7 +152,10 @@ module _ (way : Way) (study road before : List ℕ) (start : ℕ) (out : List �
       rw (turn_end h) (rw t.size, filled)
 
   -- a sheet more
-  module _ (inside : at < length study) (some : 0 < left) (sheet : SheetReading) (is : sheet ≡ sheet_reading (converted_sheet way road (drop at study))) where
+  module _ (going : at ≡ length study → ⊥) (some : 0 < left) where
+    inside : at < length study
+    inside = omega (arith, t.up_to)
+
     next : behind t.done (sheets_from (converted_sheet way road) left study at) ≡
         behind t.done (and_sheets at (converted_sheet way road (drop at study)) (sheets_from (converted_sheet way road) (left - 1) study))
     next =
@@ -168,49 +166,46 @@ module _ (way : Way) (study road before : List ℕ) (start : ℕ) (out : List �
     near : Near (length study - at) (converted_sheet way road (drop at study))
     near = rw (length-drop at study) at (sheet_near way road (drop at study))
 
-    module _ (n : sheet.refusal ≡ 0 → ⊥) where
-      no_sheet_lem : converted_sheet way road (drop at study) ≡ RefusedAt sheet.refusal sheet.offset
-      no_sheet_lem = refused_by (converted_sheet way road (drop at study)) sheet is n
+    pub turn_refused : (number place : ℕ) → RefusedAt number place ≡ placed_rows at (filled 452 (converted_sheet way road (drop at study))) → (lent : List ℕ)
+        → (RefusedAs number place ≡ walked_of all) × Filled all lent out
+    unfolding behind and_sheets
+    turn_refused number place is lent =
+        let r = refusal_back at (converted_sheet way road (drop at study)) number place is in
+        let e : all ≡ Unconverted number place =
+        t.whole ∙ next ∙ ap (λ (x : Rows). behind t.done (and_sheets at x (sheets_from (converted_sheet way road) (left - 1) study))) r.1 ∙ ap (Unconverted number) (sym r.2) in
+        rw e (refl, tt)
 
-      pub turn_refused : all ≡ Unconverted sheet.refusal (at + sheet.offset)
-      unfolding behind and_sheets
-      turn_refused = t.whole ∙ next ∙ rw no_sheet_lem
+    module _ (given : List ℕ) (used : ℕ) (is : ReadRow given used ≡ placed_rows at (filled 452 (converted_sheet way road (drop at study)))) where
+      got : (row : List ℕ) × (converted_sheet way road (drop at study) ≡ ReadRow row used) × (given ≡ padded row)
+      got = row_back at (converted_sheet way road (drop at study)) given used is
 
-      pub place_fits : at + sheet.offset ≤ length study + 2260
-      place_fits = omega (arith, (rw no_sheet_lem at near).1)
-
-    module _ (z : sheet.refusal ≡ 0) where
-      got : (row : List ℕ) × (used : ℕ) × (converted_sheet way road (drop at study) ≡ ReadRow row used) × (sheet.row ≡ padded row) × (sheet.used ≡ used)
-      got = read_by (converted_sheet way road (drop at study)) sheet is (near_named (length study - at) (converted_sheet way road (drop at study)) near) z
-
-      pub next_within : at + sheet.used ≤ length study
-      next_within = omega (arith, rw got.2 at near, got.4)
+      pub next_within : at + used ≤ length study
+      next_within = omega (arith, rw got.1 at near)
 
       -- its bytes
-      row_of : (n : ℕ) → n ≡ count_of (layout_to way (get_or road 0 0)) → take n sheet.row ≡ got.0
+      row_of : (n : ℕ) → n ≡ count_of (layout_to way (get_or road 0 0)) → take n given ≡ got.0
       unfolding converted_sheet
       row_of n e =
-          let size = converted_size way road (sheet_in way road (drop at study)) got.0 got.1 got.2 in
-          ap (take n) got.3 ∙ take_at got.0 _ n (size ∙ sym e)
+          let size = converted_size way road (sheet_in way road (drop at study)) got.0 used got.1 in
+          ap (take n) got.2 ∙ take_at got.0 _ n (size ∙ sym e)
 
-      bytes_few : (n : ℕ) → n ≡ count_of (layout_to way (get_or road 0 0)) → length (row_bytes (take n sheet.row)) ≤ 2260
-      bytes_few n e =
-          omega (arith, row_most (take n sheet.row), length-take n sheet.row, e, count_most (layout_to way (get_or road 0 0)))
+      bytes_few : (n : ℕ) → n ≡ count_of (layout_to way (get_or road 0 0)) → length (row_bytes (take n given)) ≤ 2260
+      bytes_few n e = omega (arith, row_most (take n given), length-take n given, e, count_most (layout_to way (get_or road 0 0)))
 
-      pub count_fits : (n : ℕ) → n ≡ count_of (layout_to way (get_or road 0 0)) → count + length (row_bytes (take n sheet.row)) ≤ length study + 216960
+      pub count_fits : (n : ℕ) → n ≡ count_of (layout_to way (get_or road 0 0)) → count + length (row_bytes (take n given)) ≤ length study + 216960
       count_fits n e = omega (arith, bytes_few n e, t.most)
 
-      pub turn_more : (n m : ℕ) (after : List ℕ) → n ≡ count_of (layout_to way (get_or road 0 0)) → m ≡ length (row_bytes (take n sheet.row))
-          → after ≡ write_into out count (row_bytes (take n sheet.row)) → length after ≡ length out
-          → Turn way study road before start after (at + sheet.used) (count + m) (left - 1)
+      pub turn_more : (n m : ℕ) (after : List ℕ) → n ≡ count_of (layout_to way (get_or road 0 0)) → m ≡ length (row_bytes (take n given))
+          → after ≡ write_into out count (row_bytes (take n given)) → length after ≡ length out
+          → Turn way study road before start after (at + used) (count + m) (left - 1)
       unfolding and_sheets
       turn_more n m after e em ea len =
-          let w = row_bytes (take n sheet.row) in
+          let w = row_bytes (take n given) in
           let w_is : w ≡ row_bytes got.0 = ap row_bytes (row_of n e) in
           let size : length (t.done ++ w) ≡ count + m = length-append t.done w ∙ rw (t.size, em) in
           record {
             done = t.done ++ w;
-            whole = t.whole ∙ next ∙ rw (got.2, ← got.4, behind_more, w_is);
+            whole = t.whole ∙ next ∙ rw (got.1, behind_more, w_is);
             size = size;
             from = omega (arith, t.from);
             up_to = next_within;

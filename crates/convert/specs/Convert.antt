@@ -1,13 +1,13 @@
 -- Document 02, Q-2, the converter: a whole study in the other layout, its refusals with their offsets from the study's start, and the call on a
 -- lent target. "Nothing is written to the target unless the whole study converts."
-use Rattle.std.specs.Prelude.{ℕ, zero, suc, ◌+◌, List, [], ◌∷◌, ◌++◌, length, take, drop, ltb, if◌then◌else◌}
+use Rattle.std.specs.Prelude.{ℕ, zero, suc, ◌+◌, List, [], ◌∷◌, ◌++◌, length, take, drop, ltb, if◌then◌else◌, Result, Ok, Err}
+use Rattle.refusals.specs.Numbers.{refusal_number}
+use Rattle.refusals.specs.declared.Refused.{Refused}
 use Rattle.numbers.specs.Row.{Rows, ReadRow, RefusedAt}
-use Rattle.numbers.specs.Writing.{Writing, Wrote, Refused, write_answer, write_into}
+use Rattle.numbers.specs.Writing.{Writing, Wrote, Refused as NotWritten, write_answer, write_into}
 use Rattle.sheets.specs.Read.{read_road, padded}
 use Rattle.sheets.specs.Write.{rows_bytes}
 use Rattle.convert.specs.declared.Way.{Way}
-use Rattle.convert.specs.declared.Answer.{Answer}
-use Rattle.convert.specs.declared.Answer.TheVariants.{Count, Refused as NotConverted}
 use Rattle.convert.specs.Sheet.{converted_sheet}
 
 -- the rows of a study's sheets, in order, or a refusal's number and its offset
@@ -55,15 +55,15 @@ pub data Told : Type 0 where
   Written : (count : ℕ) → Told
   RefusedAs : (number offset : ℕ) → Told
 
--- the same for each case of the enum
-abbrev pub told : Answer → Told
-told (Count n) = Written n
-told (NotConverted number offset) = RefusedAs number offset
+-- the same for what `convert` answers
+abbrev pub told : Result ℕ Refused → Told
+told (Ok n) = Written n
+told (Err r) = RefusedAs (refusal_number r.refusal) r.offset
 
 -- of a writing; its refusal, 7, has the offset 0
 abbrev pub told_by : Writing → Told
 told_by (Wrote n) = Written n
-told_by (Refused number) = RefusedAs number 0
+told_by (NotWritten number) = RefusedAs number 0
 
 -- the answer, and the target after it
 pub record Reply : Type 0 where

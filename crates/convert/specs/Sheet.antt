@@ -27,6 +27,11 @@ abbrev pub number_to : Way → (road row : List ℕ) → ℕ → ℕ
 number_to ToSecond road row k = number_in_second road row k
 number_to ToFirst road row k = number_in_first row k
 
+-- the layout that a study has, by the way of its conversion
+abbrev pub layout_from : Way → (ns : ℕ) → Layout
+layout_from ToSecond ns = FirstPeriod ns
+layout_from ToFirst ns = Period ns
+
 -- and the layout that it leads to
 abbrev pub layout_to : Way → (ns : ℕ) → Layout
 layout_to ToSecond ns = Period ns

@@ -2,8 +2,17 @@
 // line with its refusal goes to the file for complaints.
 #![tactic(auto)]
 
-use convert::{Answer, Way};
+use convert::Way;
+use refusals::Refused;
 use std::io::{Read, Write};
+
+// Why no study was written.
+#[derive(Clone, Copy)]
+enum TurnError {
+    NotRead,
+    NotConverted(Refused),
+    NotWritten,
+}
 
 // The program that leads that way, which stands before what it complains of.
 fn program(way: Way) -> &'static str {
@@ -13,48 +22,39 @@ fn program(way: Way) -> &'static str {
     }
 }
 
-fn complain<W: Write>(way: Way, complaints: &mut W, what: &str) {
+fn complain<W: Write>(way: Way, complaints: &mut W, error: TurnError) {
     let program = program(way);
-    let _ = writeln!(complaints, "{program}: {what}");
+    let _ = match error {
+        TurnError::NotRead => writeln!(complaints, "{program}: cannot read the study"),
+        TurnError::NotConverted(refused) => writeln!(complaints, "{refused}"),
+        TurnError::NotWritten => writeln!(complaints, "{program}: cannot write the study"),
+    };
 }
 
-fn complain_of_refusal<W: Write>(complaints: &mut W, number: u8, place: usize) {
-    let _ = writeln!(complaints, "refused {number} {place}");
-}
-
-// Writes the converted study, which takes so many bytes of the target.
-fn write_study<W: Write, E: Write>(
+// The buffers serve every study: the longest that converts has 26,149 bytes in the first layout and 32,293 in the second, and the refusal of a
+// longer one is decided before.
+fn write_turned<R: Read, W: Write>(
     way: Way,
+    source: &mut R,
     output: &mut W,
-    complaints: &mut E,
-    target: &[u8],
-    count: usize,
-) {
-    if count <= target.len() {
-        if output.write_all(&target[..count]).is_ok() {
-            return;
-        }
-    }
-    complain(way, complaints, "cannot write the study");
+) -> Result<(), TurnError> {
+    let mut study = [0u8; input::STUDY_ROOM];
+    let mut target = [0u8; input::STUDY_ROOM];
+    let bytes = input::read_to_end(source, &mut study).map_err(|_| TurnError::NotRead)?;
+    let count = convert::convert(way, bytes, &mut target).map_err(TurnError::NotConverted)?;
+    output
+        .write_all(&target[..count])
+        .map_err(|_| TurnError::NotWritten)
 }
 
-// Turns a study of one layout into the other. The buffers have to hold the study before and after, or as much of it as its refusal takes.
+// Turns a study of one layout into the other.
 pub fn turn<R: Read, W: Write, E: Write>(
     way: Way,
     source: &mut R,
     output: &mut W,
     complaints: &mut E,
-    study: &mut [u8],
-    target: &mut [u8],
 ) {
-    let got = input::read_to_end(source, study);
-    if got.failed {
-        complain(way, complaints, "cannot read the study");
-        return;
-    }
-    let answer = convert::convert(way, &study[..got.length], target);
-    match answer {
-        Answer::Count(count) => write_study(way, output, complaints, target, count),
-        Answer::Refused { number, offset } => complain_of_refusal(complaints, number, offset),
+    if let Err(error) = write_turned(way, source, output) {
+        complain(way, complaints, error);
     }
 }

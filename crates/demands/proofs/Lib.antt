@@ -1,2 +1,1 @@
-pub mod Listed
 pub mod Sums

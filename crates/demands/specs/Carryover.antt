@@ -1,12 +1,12 @@
 -- Document 01, "Planning sheet": the new carryover of every section, max(d - c, 0), which replaces the old.
-use Rattle.std.specs.Prelude.{ℕ, List, get_or}
-use Rattle.sections.specs.Section.{carried_of}
-use Rattle.planning_sheet.specs.Sheet.{section_of}
-use Rattle.demands.specs.Listing.{first}
+use Rattle.std.specs.Prelude.{ℕ, List, length, get_or}
+use Rattle.sections.specs.Section.{SectionNumbers, carried_of}
+use Rattle.planning_sheet.specs.Listing.{first}
+use Rattle.planning_sheet.specs.Sheet.{section_at}
 
 -- the new carryover of section i, from 0, and of all
-unfoldable pub carried_at : ℕ → List ℕ → List ℕ → ℕ → ℕ
-carried_at n row demands i = carried_of (section_of n row i) (get_or demands i 0)
+unfoldable pub carried_at : List SectionNumbers → List ℕ → ℕ → ℕ
+carried_at sections demands i = carried_of (section_at sections i) (get_or demands i 0)
 
-unfoldable pub carryover_of : ℕ → List ℕ → List ℕ → List ℕ
-carryover_of n row demands = first n (carried_at n row demands)
+unfoldable pub carryover_of : List SectionNumbers → List ℕ → List ℕ
+carryover_of sections demands = first (length sections) (carried_at sections demands)

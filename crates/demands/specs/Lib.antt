@@ -1,3 +1,2 @@
-pub mod Listing
 pub mod Demand
 pub mod Carryover

@@ -2,83 +2,49 @@
 #![tactic(auto)]
 
 ghost use Rattle.std.specs.Prelude.{◌≡◌, ◌≤◌, pos, length};
-ghost use Rattle.sections.specs.Good.{GoodSection};
-ghost use Rattle.planning_sheet.specs.Good.{GoodSections};
+ghost use Rattle.sections.specs.Numbers.{numbers_of};
+ghost use Rattle.planning_sheet.specs.View.{sections_in};
 ghost use Rattle.demands.specs.Demand.{next_of, checked_of, held_demands};
 ghost use Rattle.demands.specs.Carryover.{carryover_of};
 
-use sections::section;
+use planning_sheet::list::Sections;
 use sections::section::Section;
 
-// A demand that a section may have, or none.
-#[derive(Clone, Copy)]
-pub enum Demand {
-    Within(u32),
-    Outside,
-}
-
-// Whether every demand is one that a section may have, and then each, zeros past the section count.
-#[derive(Clone, Copy)]
-pub struct Demands {
-    pub fit: bool,
-    pub each: [u32; 64],
-}
-
-// The demand of a section, from that of the section before it.
+// The demand of a section, from that of the section before it: none where no section may have it.
 #[tactic(auto, using(crate::proofs::Sums::next_below, crate::proofs::Sums::next_above, crate::proofs::Sums::next_within))]
-fn next_demand(d: u32, s: Section, carried: u32) -> Demand
-    requires { (d ≤ 1000000) × GoodSection s }
-    ensures { result ≡ checked_of (next_of (pos d) s carried) }
+fn next_demand(demand: u32, section: Section, carried: u32) -> Option<u32>
+    requires { demand ≤ 1000000 }
+    ensures { result ≡ checked_of (next_of (pos demand) (numbers_of section) carried) }
 {
-    let up = d as u64 + s.inflow as u64 + carried as u64;
-    let out = s.outflow as u64;
-    if up < out {
-        return Demand::Outside;
+    let up = u64::from(demand) + u64::from(section.inflow) + u64::from(carried);
+    let next = up.checked_sub(u64::from(section.outflow))?;
+    if 1000000 < next {
+        return None;
     }
-    if 1000000 < up - out {
-        return Demand::Outside;
-    }
-    Demand::Within((up - out) as u32)
+    Some(next as u32)
 }
 
-// The demands of n sections with what is carried over to them.
-pub fn demands_of(n: usize, row: [u32; 384], carryover: &[u32]) -> Demands
-    requires { (n ≤ 64) × (length carryover.now ≡ n) × GoodSections n row }
-    ensures { result ≡ held_demands n row carryover.now }
+// Stays: fixed memory. With no heap, the demands are an array of 64 beside the sections, and the carryover is lent, one place a section, as the call asks.
+// The demands of the sections with what is carried over to them, zeros past the section count: none where a section may not have its own.
+pub fn demands_of(sections: &Sections, carryover: &[u32]) -> Option<[u32; 64]>
+    requires { length carryover.now ≡ length (sections_in sections.now) }
+    ensures { result ≡ held_demands (sections_in sections.now) carryover.now }
 {
     let mut each = [0u32; 64];
-    let mut d: u32 = 0;
-    let mut i: usize = 0;
-    while i < n {
-        let s = planning_sheet::section_at(n, row, i);
-        let got = next_demand(d, s, carryover[i]);
-        match got {
-            Demand::Within(next) => {
-                each[i] = next;
-                d = next;
-                i += 1;
-            }
-            Demand::Outside => {
-                let none = [0u32; 64];
-                return Demands {
-                    fit: false,
-                    each: none,
-                };
-            }
-        }
+    let mut demand = 0;
+    for i in 0..sections.count() {
+        demand = next_demand(demand, sections.at(i), carryover[i])?;
+        each[i] = demand;
     }
-    Demands { fit: true, each }
+    Some(each)
 }
 
-// Stores what each of n sections carries over to the next period.
-pub fn carry(n: usize, row: [u32; 384], each: [u32; 64], carryover: &mut [u32])
-    requires { (n ≤ 64) × (length carryover.old ≡ n) × GoodSections n row }
-    ensures { carryover.new ≡ carryover_of n row each }
+// Stores what each section carries over to the next period.
+pub fn carry(sections: &Sections, demands: &[u32; 64], carryover: &mut [u32])
+    requires { length carryover.old ≡ length (sections_in sections.now) }
+    ensures { carryover.new ≡ carryover_of (sections_in sections.now) demands.now }
 {
-    let mut i: usize = 0;
-    while i < n {
-        let s = planning_sheet::section_at(n, row, i);
-        carryover[i] = section::carried(s, each[i]);
-        i += 1;
+    for i in 0..sections.count() {
+        carryover[i] = sections.at(i).carried(demands[i]);
     }
 }

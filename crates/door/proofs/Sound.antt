@@ -9,7 +9,7 @@ use borrow.Author.Tests.{leb-true, le-leb, eqb-true}
 use Rattle.parts.specs.Allowed.{all_below, road_allowed, period_allowed}
 use Rattle.parts.proofs.Allowed.{all_at, all_by, both}
 use Rattle.parts.specs.Good.{GoodRoad, GoodPeriod}
-use Rattle.parts.proofs.Good.{good_period}
+use Rattle.parts.proofs.Good.{good_road, good_period}
 use Rattle.segment.specs.declared.Cell.{Cell}
 use Rattle.segment.specs.Bounded.{BoundedCell}
 use Rattle.steps.specs.declared.State.{State}
@@ -91,6 +91,16 @@ pub sound_is : (f : Facility) → Sound f → sound f ≡ true
 unfolding sound counted
 sound_is f s =
     rw (s.road, le-leb _ _ s.few, le-leb _ _ s.short, s.sheet, bounded_state _ _ _ s.bounds, bounded_sums _ _ _ _ s.sums)
+
+-- what the first two parts say
+pub counts : (taken made : ℕ) → counted taken made ≡ true → (taken ≤ 96) × (made ≤ 60)
+unfolding counted
+counts taken made e =
+    let n = both (leb taken 96) (leb made 60) e in
+    (leb-true _ _ n.0, leb-true _ _ n.1)
+
+pub few_segments : (road : List ℕ) → road_allowed road ≡ true → segments road ≤ 64
+few_segments road e = (good_road road e).segments.1
 
 -- the sheet in force, once one is taken
 sheet_by_lem : (road period : List ℕ) (taken : ℕ) (t : Bool) → eqb taken 0 ≡ t → (t || period_allowed road period) ≡ true → 0 < taken

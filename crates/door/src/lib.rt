@@ -1,13 +1,15 @@
 // A facility as a value, and the test at the door: what every facility has that a laying and calls can produce.
 #![tactic(auto)]
 
-ghost use Rattle.std.specs.Prelude.{◌≡◌, ◌≤◌};
+ghost use Rattle.std.specs.Prelude.{◌≡◌, ◌≤◌, ◌&&◌};
+ghost use Rattle.std.specs.List.{list_all};
+ghost use Rattle.conditions.specs.Conditions.{segments};
 ghost use Rattle.door.specs.Sound.{steps_by, counted, sheeted, cell_bounded, state_bounded, sums_bounded, sound};
 
-use arithmetic::{less, wide};
 use segment::Cell;
 use steps::State;
 
+// Stays: no plainer. That no sheet is in force is told by the count of those taken; an Option for the sheet would tell it twice.
 // A road that is laid, the period sheet in force with the sheets taken so far and the steps made under the last, the state of the
 // step rules, and the sums: arrived, left and part-steps.
 #[derive(Clone, Copy)]
@@ -22,106 +24,85 @@ pub struct Facility {
     pub partsteps: u64,
 }
 
-// The steps made so far.
-fn steps_by(taken: u32, made: u32) -> u32
-    requires { (taken ≤ 96) × (made ≤ 60) }
-    ensures { (result ≡ steps_by taken made) × (result ≤ 5760) }
-{
-    less(60 * taken + made, 60)
-}
-
-fn is_counted(taken: u32, made: u32) -> bool
-    ensures { result ≡ counted taken made }
-{
-    (taken <= 96) & (made <= 60)
-}
-
-fn is_sheeted<'a>(taken: u32, road: &'a [u32; 452], period: &'a [u32; 452]) -> bool
-    ensures { result ≡ sheeted taken road.now period.now }
-{
-    if taken == 0 {
-        return true;
-    }
-    parts::is_period(road, period)
-}
-
-fn is_cell_bounded(t: u32, cell: Cell) -> bool
+// Whether a cell is within what t steps can leave. Stays: no plainer. That t is at most 5,760 is what its products need, as in the tests below.
+#[tactic(auto, unfolding(crate::specs::Sound::cell_bounded))]
+fn is_cell_bounded(t: u32, cell: &Cell) -> bool
     requires { t ≤ 5760 }
-    ensures { result ≡ cell_bounded t cell }
+    ensures { result ≡ cell_bounded t cell.now }
 {
     (cell.n <= 2880000) & ((cell.q <= 10000 * t) & (cell.remainder <= 999))
 }
 
-fn is_state_bounded(ns: usize, t: u32, state: State) -> bool
-    requires { (ns ≤ 64) × (t ≤ 5760) }
-    ensures { result ≡ state_bounded ns t state }
-{
-    let mut ok = true;
-    let mut i: usize = 0;
-    while i < ns {
-        ok = ok & is_cell_bounded(t, state.cells[i]);
-        i += 1;
-    }
-    ok & (state.origin <= 20000 * t)
-}
-
-fn are_sums_bounded(t: u64, arrived: u64, left: u64, partsteps: u64) -> bool
+// The same of all cells.
+fn are_cells_bounded(t: u32, cells: &[Cell]) -> bool
     requires { t ≤ 5760 }
-    ensures { result ≡ sums_bounded t arrived left partsteps }
+    ensures { result ≡ list_all (cell_bounded t) cells.now }
 {
-    (arrived <= 660000 * t) & ((left <= 660000 * t) & (partsteps <= 3801600000 * t))
+    cells.iter().all(|cell| is_cell_bounded(t, cell))
 }
 
-// Whether the facility with these fields has what a laying and calls produce; any other is the empty one. Its rows are lent.
-pub fn fields_are_sound<'a>(
-    road: &'a [u32; 452],
-    period: &'a [u32; 452],
-    taken: u32,
-    made: u32,
-    state: State,
-    arrived: u64,
-    left: u64,
-    partsteps: u64,
-) -> bool
-    ensures { result ≡ sound (record {
-      road = road.now;
-      period = period.now;
-      taken = taken;
-      made = made;
-      state = state;
-      arrived = arrived;
-      left = left;
-      partsteps = partsteps;
-    }) }
+// The same of a state, of so many segments.
+fn is_state_bounded(ns: usize, t: u32, state: &State) -> bool
+    requires { (ns ≤ 64) × (t ≤ 5760) }
+    ensures { result ≡ state_bounded ns t state.now }
 {
-    if !parts::is_road(road) {
-        return false;
-    }
-    if !is_counted(taken, made) {
-        return false;
-    }
-    if !is_sheeted(taken, road, period) {
-        return false;
-    }
-    let t = steps_by(taken, made);
-    if !is_state_bounded(road[0] as usize, t, state) {
-        return false;
-    }
-    are_sums_bounded(wide(t), arrived, left, partsteps)
+    are_cells_bounded(t, &state.cells[..ns]) & (state.origin <= 20000 * t)
 }
 
-// The same of a facility.
-pub fn is_sound(f: Facility) -> bool
-    ensures { result ≡ sound f }
-{
-    fields_are_sound(
-        &f.road,
-        &f.period,
-        f.taken,
-        f.made,
-        f.state,
-        f.arrived,
-        f.left,
-        f.partsteps,
-    )
+impl Facility {
+    // The steps made so far.
+    #[tactic(auto, unfolding(crate::specs::Sound::steps_by))]
+    fn steps(&self) -> u32
+        requires { (self.now.taken ≤ 96) × (self.now.made ≤ 60) }
+        ensures { (result ≡ steps_by self.now.taken self.now.made) × (result ≤ 5760) }
+    {
+        (60 * self.taken + self.made).saturating_sub(60)
+    }
+
+    // Whether its counts are those of at most 96 sheets of 60 steps.
+    #[tactic(auto, unfolding(crate::specs::Sound::counted))]
+    fn is_counted(&self) -> bool
+        ensures { result ≡ counted self.now.taken self.now.made }
+    {
+        (self.taken <= 96) & (self.made <= 60)
+    }
+
+    // Whether the sheet in force, if there is one, is a period of its road.
+    #[tactic(auto, unfolding(crate::specs::Sound::sheeted))]
+    fn is_sheeted(&self) -> bool
+        ensures { result ≡ sheeted self.now.taken self.now.road self.now.period }
+    {
+        self.taken == 0 || parts::is_period(&self.road, &self.period)
+    }
+
+    // Whether its sums are within what t steps can leave.
+    #[tactic(auto, unfolding(crate::specs::Sound::sums_bounded))]
+    fn are_sums_bounded(&self, t: u64) -> bool
+        requires { t ≤ 5760 }
+        ensures { result ≡ sums_bounded t self.now.arrived self.now.left self.now.partsteps }
+    {
+        (self.arrived <= 660000 * t)
+            & ((self.left <= 660000 * t) & (self.partsteps <= 3801600000 * t))
+    }
+
+    // Whether its state and its sums are within what the steps made so far can leave.
+    #[tactic(auto, unfolding(parts::specs::Parts::road_globals))]
+    fn is_bounded(&self) -> bool
+        requires { (segments self.now.road ≤ 64) × (self.now.taken ≤ 96) × (self.now.made ≤ 60) }
+        ensures { result ≡ (state_bounded (segments self.now.road) (steps_by self.now.taken self.now.made) self.now.state
+            && sums_bounded (steps_by self.now.taken self.now.made) self.now.arrived self.now.left self.now.partsteps) }
+    {
+        let t = self.steps();
+        is_state_bounded(self.road[0] as usize, t, &self.state)
+            & self.are_sums_bounded(u64::from(t))
+    }
+
+    // Whether it has what a laying and calls produce; any other is the empty facility.
+    #[tactic(auto, using(crate::proofs::Sound::counts, crate::proofs::Sound::few_segments), unfolding(crate::specs::Sound::sound))]
+    pub fn is_sound(&self) -> bool
+        ensures { result ≡ sound self.now }
+    {
+        parts::is_road(&self.road)
+            && (self.is_counted() && (self.is_sheeted() && self.is_bounded()))
+    }
 }

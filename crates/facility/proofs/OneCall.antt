@@ -13,9 +13,8 @@ use Rattle.sheets.proofs.Refusals.{period_refusal}
 use Rattle.conditions.specs.Conditions.{Conditions, SheetInForce, conditions_of}
 use Rattle.door.specs.Sound.{sheeted, sound}
 use Rattle.running.specs.Steps.{sheet_by, conditions_on, step_of, steps_of}
-use Rattle.facility.specs.Calls.{fresh_on, with_sheet, taken_by, take_of, ran_by, run_of, level_at, reported_by, report_of, totals_of}
+use Rattle.facility.specs.Calls.{Reply, fresh_on, with_sheet, taken_by, take_of, ran_by, run_of, level_at, reported_by, report_of, totals_of}
 use Rattle.facility.specs.Ledger.{Take, Run, Report, Totals, state_after, arrived_in, left_in, partsteps_in, step_from, more_steps, Book, present, conditions_by, take_by, opened, taken_as, with_row, with_steps, ran_as, with_run, reported_as, answer, after}
-use Rattle.facility.specs.declared.Reply.{Reply}
 use Rattle.facility.specs.Verdicts.{Verdict, GoesOn, RefusedBy, run_verdict, report_verdict}
 use Rattle.facility.proofs.Verdicts.{take_named, run_named, report_named}
 use Rattle.facility.proofs.Cases.{take_by_lem, run_by, report_by, totals_sound}

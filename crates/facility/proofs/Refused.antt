@@ -4,8 +4,6 @@ use mathlib.Core.Bool.{false}
 use mathlib.Core.Path.{◌≡◌, refl, sym, ap, ◌∙◌, subst}
 use native.Mathlib.Omega.{arith}
 use Rattle.sheets.proofs.Refusals.{road_refusal}
-use Rattle.facility.specs.declared.SegmentReport.{SegmentReport}
-use Rattle.facility.specs.declared.Sums.{Sums}
 use mathlib.Core.List.{List, [], ◌∷◌, map}
 use Rattle.numbers.specs.Row.{Rows, ReadRow, RefusedAt}
 use Rattle.sheets.specs.Layout.{road_range, range_of, count_of}
@@ -13,14 +11,14 @@ use Rattle.sheets.specs.Read.{read_road}
 use Rattle.parts.specs.Allowed.{within, all_below, allowed, road_allowed}
 use Rattle.door.specs.declared.Facility.{Facility}
 use Rattle.door.specs.Sound.{sound}
-use Rattle.facility.specs.declared.Reply.{Reply}
-use Rattle.facility.specs.Calls.{fresh_on, empty, laid_by, lay_of, take_of, run_of, report_of, totals_of}
+use Rattle.facility.specs.Calls.{Reply, ReportReply, SumsReply, fresh_on, empty, laid_by, lay_of}
 use Rattle.facility.specs.Ledger.{Call, Take, Run, Report, Totals, Answer, Refused}
 use Rattle.facility.specs.Answers.{take_says, run_says, report_says, totals_say}
 use Rattle.facility.specs.Statement.{RefusedStatement}
 use Rattle.facility.proofs.Cases.{take_empty, run_empty, report_empty, totals_empty, write_empty, write_period_empty}
 use Rattle.facility.proofs.Played.{Gives, took, ran, reported, totalled, Calls, stop, next, PlayedRefused}
-use Rattle.facility.proofs.Lists.{slice, laid_is}
+use Rattle.facility.proofs.Told.{facility_after, facility_after_run}
+use Rattle.facility.proofs.Lists.{gives_take, gives_run, gives_report, gives_totals, laid, laid_is}
 
 -- no road has 0 segments
 empty_unsound : sound empty ≡ false
@@ -29,10 +27,14 @@ empty_unsound = refl
 
 -- one call, and a list of them
 pub nine : {f g : Facility} {c : Call} {x : Answer} → Gives f c x g → sound f ≡ false → (x ≡ Refused 9 0) × (g ≡ f)
-nine (took κ s r gives) e = let is = gives ∙ take_empty _ e _ in (ap take_says is, ap (λ (q : Reply). q.facility) is)
-nine (ran k r gives) e = let is = gives ∙ run_empty _ e _ in (ap run_says is, ap (λ (q : Reply). q.facility) is)
-nine (reported i r gives) e = (ap report_says (gives ∙ report_empty _ e _), refl)
-nine (totalled r gives) e = (ap totals_say (gives ∙ totals_empty _ e), refl)
+nine (took κ f g s r gives) e =
+    let is = gives ∙ take_empty _ e _ in
+    (ap take_says is, sym (facility_after r g.now) ∙ ap (λ (q : Reply). q.facility) is)
+nine (ran κ f g k r gives) e =
+    let is = gives ∙ run_empty _ e _ in
+    (ap run_says is, sym (facility_after_run r g.now) ∙ ap (λ (q : Reply). q.facility) is)
+nine (reported κ f i r gives) e = (ap report_says (gives ∙ report_empty _ e _), refl)
+nine (totalled κ f r gives) e = (ap totals_say (gives ∙ totals_empty _ e), refl)
 
 pub nines : {f g : Facility} {cs : List Call} {xs : List Answer} → Calls f cs xs g → sound f ≡ false → (xs ≡ map (λ c. Refused 9 0) cs) × (g ≡ f)
 nines stop e = (refl, refl)
@@ -59,17 +61,12 @@ refused_theorem {bytes} {g = g} p =
 
 -- ---- and every list can be played on the facility of a refused laying
 nine_call : (c : Call) → Gives empty c (Refused 9 0) empty
-unfolding slice
 nine_call (Take bytes) =
-    let gives : Gives empty (Take bytes) (take_says (take_of empty bytes)) (take_of empty bytes).facility =
-    took ([], tt) (slice bytes) (take_of empty bytes) refl in
-    subst (λ (r : Reply). Gives empty (Take bytes) (take_says r) r.facility) (take_empty empty empty_unsound bytes) gives
-nine_call (Run k) =
-    let gives : Gives empty (Run k) (run_says (run_of empty k)) (run_of empty k).facility = ran k (run_of empty k) refl in
-    subst (λ (r : Reply). Gives empty (Run k) (run_says r) r.facility) (run_empty empty empty_unsound k) gives
+    subst (λ (r : Reply). Gives empty (Take bytes) (take_says r) r.facility) (take_empty empty empty_unsound bytes) (gives_take empty bytes)
+nine_call (Run k) = subst (λ (r : Reply). Gives empty (Run k) (run_says r) r.facility) (run_empty empty empty_unsound k) (gives_run empty k)
 nine_call (Report i) =
-    subst (λ (r : SegmentReport). Gives empty (Report i) (report_says r) empty) (report_empty empty empty_unsound i) (reported i (report_of empty i) refl)
-nine_call Totals = subst (λ (r : Sums). Gives empty Totals (totals_say r) empty) (totals_empty empty empty_unsound) (totalled (totals_of empty) refl)
+    subst (λ (r : ReportReply). Gives empty (Report i) (report_says r) empty) (report_empty empty empty_unsound i) (gives_report empty i)
+nine_call Totals = subst (λ (r : SumsReply). Gives empty Totals (totals_say r) empty) (totals_empty empty empty_unsound) (gives_totals empty)
 
 nine_calls : (cs : List Call) → Calls empty cs (map (λ c. Refused 9 0) cs) empty
 nine_calls [] = stop
@@ -77,12 +74,12 @@ nine_calls (c ∷ cs) = next (nine_call c) (nine_calls cs)
 
 pub refused_playable : (bytes : List ℕ) (e at : ℕ) → read_road bytes ≡ RefusedAt e at → (cs : List Call)
     → PlayedRefused bytes cs (map (λ c. Refused 9 0) cs) empty
-unfolding lay_of slice
+unfolding lay_of
 refused_playable bytes e at r cs =
     let number : (lay_of bytes).refusal ≡ e = ap (λ (q : Rows). (laid_by q).refusal) r in
     record {
       reply = lay_of bytes;
-      laid = record { κ = ([], tt); slice = slice bytes; at_bytes = refl; lays = refl };
+      laid = laid bytes;
       refused = λ z. omega (arith, road_refusal bytes e at r, number);
       calls = subst (λ (f : Facility). Calls f cs (map (λ c. Refused 9 0) cs) empty) (sym (ap (λ (q : Rows). (laid_by q).facility) r)) (nine_calls cs);
     }

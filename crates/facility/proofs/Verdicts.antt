@@ -1,22 +1,23 @@
 -- The verdicts, by the tests that the code makes; and back, what a verdict says.
 use Prim.Native.Nat.{ℕ, zero, suc, ◌-◌, ◌≤◌, ◌<◌}
-use mathlib.Core.Bool.{Bool, true, false}
+use mathlib.Core.Bool.{Bool, true, false, ◌||◌}
 use mathlib.Core.Path.{◌≡◌, refl}
 use mathlib.Core.List.{List}
 use native.Mathlib.Omega.{arith}
 use lib.Dec.{leb, ltb, eqb}
-use borrow.Author.Tests.{le-leb, lt-leb, lt-ltb, le-ltb, eq-eqb, ne_eqb, leb-false, ltb-false}
+use borrow.Author.Tests.{le-leb, lt-leb, le-ltb, eq-eqb, ne_eqb, leb-false, ltb-false}
 use Rattle.std.specs.Prelude.{if◌then◌else◌}
 use Rattle.numbers.specs.Row.{Rows, ReadRow, RefusedAt}
 use Rattle.conditions.specs.Conditions.{segments}
-use Rattle.facility.specs.Verdicts.{Verdict, GoesOn, RefusedBy, number_of, outside, unfinished, take_verdict, run_verdict, report_verdict, period_verdict}
+use Rattle.facility.specs.Verdicts.{GoesOn, RefusedBy, outside, unfinished, take_verdict, run_verdict, report_verdict, period_verdict}
+
+-- a call goes on where its check is passed
+pub passed : (x : Bool) (number : ℕ) → GoesOn ≡ (if x then GoesOn else RefusedBy number) → x ≡ true
+passed true number e = refl
+passed false number e = absurd (let z : ◌≡◌ {A = ℕ} 0 1 = cc in omega arith)
 
 -- ---- taking a sheet
 module _ (read : List ℕ → Rows) (taken made : ℕ) (bytes : List ℕ) where
-  pub take_unfinished : unfinished taken made ≡ true → take_verdict read taken made bytes ≡ RefusedAt 12 0
-  unfolding take_verdict
-  take_unfinished u = rw u
-
   pub take_full : unfinished taken made ≡ false → 96 ≤ taken → take_verdict read taken made bytes ≡ RefusedAt 13 0
   unfolding take_verdict
   take_full u h = rw (u, le-leb _ _ h)
@@ -54,23 +55,7 @@ nonzero zero e = absurd (let z : ◌≡◌ {A = ℕ} 0 1 = cc in omega arith)
 nonzero (suc n) e = omega arith
 
 module _ (taken made k : ℕ) where
-  pub run_none : k < 1 → run_verdict taken made k ≡ RefusedBy 5
-  unfolding run_verdict
-  run_none h = rw (lt-ltb k 1 h)
-
-  pub run_many : 1 ≤ k → 60 < k → run_verdict taken made k ≡ RefusedBy 5
-  unfolding run_verdict
-  run_many l h = rw (le-ltb k 1 l, lt-ltb 60 k h)
-
   module _ (l : 1 ≤ k) (m : k ≤ 60) where
-    pub run_no_sheet : taken ≡ 0 → run_verdict taken made k ≡ RefusedBy 10
-    unfolding run_verdict
-    run_no_sheet z = rw (le-ltb k 1 l, le-ltb 60 k m, eq-eqb _ _ z)
-
-    pub run_short : (taken ≡ 0 → ⊥) → 60 - made < k → run_verdict taken made k ≡ RefusedBy 11
-    unfolding run_verdict
-    run_short n s = rw (le-ltb k 1 l, le-ltb 60 k m, ne_eqb _ _ n, lt-ltb (60 - made) k s)
-
     pub run_goes : (taken ≡ 0 → ⊥) → k ≤ 60 - made → run_verdict taken made k ≡ GoesOn
     unfolding run_verdict
     run_goes n s = rw (le-ltb k 1 l, le-ltb 60 k m, ne_eqb _ _ n, le-ltb (60 - made) k s)
@@ -98,28 +83,8 @@ module _ (taken made k : ℕ) where
   unfolding run_verdict
   run_named e q = run_named_by (outside 1 60 k) (eqb taken 0) (ltb (60 - made) k) e q
 
--- a verdict by its number: one that is not 0 refuses, and where it is 0 the run is made
-pub refuses : (v : Verdict) → (number_of v ≡ 0 → ⊥) → v ≡ RefusedBy (number_of v)
-refuses GoesOn n = absurd (n refl)
-refuses (RefusedBy e) n = refl
-
-goes_by_number : (v : Verdict) → ((e : ℕ) → v ≡ RefusedBy e → 1 ≤ e) → number_of v ≡ 0 → v ≡ GoesOn
-goes_by_number GoesOn h z = refl
-goes_by_number (RefusedBy e) h z = absurd (omega (arith, h e refl))
-
-pub run_goes_on : (taken made k : ℕ) → number_of (run_verdict taken made k) ≡ 0 → run_verdict taken made k ≡ GoesOn
-run_goes_on taken made k z = goes_by_number (run_verdict taken made k) (run_named taken made k) z
-
 -- ---- a report
 module _ (road : List ℕ) (i : ℕ) where
-  pub report_none : i < 1 → report_verdict road i ≡ RefusedBy 6
-  unfolding report_verdict
-  report_none h = rw (lt-ltb i 1 h)
-
-  pub report_past : 1 ≤ i → segments road < i → report_verdict road i ≡ RefusedBy 6
-  unfolding report_verdict
-  report_past l h = rw (le-ltb i 1 l, lt-ltb (segments road) i h)
-
   pub report_goes : 1 ≤ i → i ≤ segments road → report_verdict road i ≡ GoesOn
   unfolding report_verdict
   report_goes l h = rw (le-ltb i 1 l, le-ltb (segments road) i h)
@@ -132,11 +97,18 @@ module _ (road : List ℕ) (i : ℕ) where
   unfolding report_verdict
   report_named e q = report_named_by (outside 1 (segments road) i) e q
 
+  report_accepted_by : (x y : Bool) → ltb i 1 ≡ x → ltb (segments road) i ≡ y → (if x || y then RefusedBy 6 else GoesOn) ≡ GoesOn
+      → (1 ≤ i) × (i ≤ segments road)
+  report_accepted_by true y p q e = absurd (let z : ◌≡◌ {A = ℕ} 0 1 = cc in omega arith)
+  report_accepted_by false true p q e = absurd (let z : ◌≡◌ {A = ℕ} 0 1 = cc in omega arith)
+  report_accepted_by false false p q e = (ltb-false i 1 p, ltb-false (segments road) i q)
+
+  -- a report is made only of a segment of the road
+  pub report_accepted : report_verdict road i ≡ GoesOn → (1 ≤ i) × (i ≤ segments road)
+  unfolding report_verdict
+  report_accepted e = report_accepted_by (ltb i 1) (ltb (segments road) i) refl refl e
+
 -- ---- writing the period
 pub period_none : (taken : ℕ) → taken ≡ 0 → period_verdict taken ≡ RefusedBy 10
 unfolding period_verdict
 period_none taken z = rw (eq-eqb _ _ z)
-
-pub period_some : (taken : ℕ) → (taken ≡ 0 → ⊥) → period_verdict taken ≡ GoesOn
-unfolding period_verdict
-period_some taken n = rw (ne_eqb _ _ n)

@@ -11,12 +11,35 @@ use Rattle.conditions.specs.Conditions.{in_force_at, segments}
 use Rattle.steps.specs.Step.{cell_in, fresh_state, stored_of}
 use Rattle.letters.specs.Level.{level_of}
 use Rattle.door.specs.declared.Facility.{Facility}
-use Rattle.facility.specs.declared.Reply.{Reply}
-use Rattle.facility.specs.declared.SegmentReport.{SegmentReport}
-use Rattle.facility.specs.declared.Sums.{Sums}
 use Rattle.facility.specs.Verdicts.{Verdict, GoesOn, RefusedBy, take_verdict, run_verdict, report_verdict, period_verdict}
 use Rattle.door.specs.Sound.{sound}
 use Rattle.running.specs.Steps.{conditions_on, steps_of}
+
+-- what laying, taking and running give: the refusal is 0, or its number with its offset; the bytes used, and the facility after it
+pub record Reply : Type 0 where
+  pub refusal : ℕ
+  pub offset : ℕ
+  pub used : ℕ
+  pub facility : Facility
+
+-- what a segment report gives: n, q, the last step's f, r, off(y) and y, and the letter
+pub record ReportReply : Type 0 where
+  pub refusal : ℕ
+  pub n : ℕ
+  pub q : ℕ
+  pub main : ℕ
+  pub ramp : ℕ
+  pub off : ℕ
+  pub out : ℕ
+  pub level : Level
+
+-- what totals give: arrived, left, stored and part-steps
+pub record SumsReply : Type 0 where
+  pub refusal : ℕ
+  pub arrived : ℕ
+  pub left : ℕ
+  pub stored : ℕ
+  pub partsteps : ℕ
 
 -- the row that stands for no sheet
 abbrev pub no_sheet : List ℕ
@@ -91,10 +114,10 @@ unfoldable pub run_of : Facility → ℕ → Reply
 run_of f k = unless_empty f (λ e. refused f e 0) (ran_by f k (run_verdict f.taken f.made k))
 
 -- a report of a cell: n, q, the last step's f, r, off(y) and y, and the letter; a refused one has every number 0 and the letter A
-abbrev pub reported : Cell → Level → SegmentReport
+abbrev pub reported : Cell → Level → ReportReply
 reported c level = record { refusal = 0; n = c.n; q = c.q; main = c.main; ramp = c.ramp; off = c.off; out = c.out; level = level }
 
-abbrev pub no_report : ℕ → SegmentReport
+abbrev pub no_report : ℕ → ReportReply
 no_report number = record { refusal = number; n = 0; q = 0; main = 0; ramp = 0; off = 0; out = 0; level = A }
 
 -- the letter of segment i, counted from 0, by the length and the lanes in force
@@ -102,20 +125,20 @@ unfoldable pub level_at : Facility → ℕ → Level
 level_at f i = level_of (cell_in f.state i).n (in_force_at (conditions_on f) i).length (in_force_at (conditions_on f) i).lanes
 
 -- by the verdict: the report, or the refusal
-abbrev pub reported_by : Facility → (segment : ℕ) → Verdict → SegmentReport
+abbrev pub reported_by : Facility → (segment : ℕ) → Verdict → ReportReply
 reported_by f i GoesOn = reported (cell_in f.state (i - 1)) (level_at f (i - 1))
 reported_by f i (RefusedBy number) = no_report number
 
 -- Segment report, segments counted from 1: 9, then its verdict
-unfoldable pub report_of : Facility → ℕ → SegmentReport
+unfoldable pub report_of : Facility → ℕ → ReportReply
 report_of f i = unless_empty f no_report (reported_by f i (report_verdict f.road i))
 
 -- refused totals: every number 0
-abbrev pub no_sums : ℕ → Sums
+abbrev pub no_sums : ℕ → SumsReply
 no_sums number = record { refusal = number; arrived = 0; left = 0; stored = 0; partsteps = 0 }
 
 -- Totals: 9
-unfoldable pub totals_of : Facility → Sums
+unfoldable pub totals_of : Facility → SumsReply
 totals_of f =
     unless_empty f no_sums (record {
       refusal = 0;

@@ -10,11 +10,6 @@ pub data Verdict : Type 0 where
   GoesOn : Verdict
   RefusedBy : (number : ℕ) → Verdict
 
--- its number, 0 for none, as the code has it
-abbrev pub number_of : Verdict → ℕ
-number_of GoesOn = 0
-number_of (RefusedBy number) = number
-
 -- k is outside low..high
 abbrev pub outside : (low high k : ℕ) → Bool
 outside low high k = ltb k low || ltb high k

@@ -1,33 +1,26 @@
-// The calls on a facility: a road with its state, its sheet in force and its sums, by value.
+// The calls on a facility: a road with its state, its sheet in force and its sums.
 #![tactic(auto)]
 
-ghost use Rattle.std.specs.Prelude.{◌≡◌, ◌≤◌, ◌<◌};
+ghost use Rattle.std.specs.Prelude.{◌≡◌, ◌≤◌, ◌<◌, Ok, if◌then◌else◌};
 ghost use Rattle.numbers.specs.Writing.{writing};
-ghost use Rattle.parts.specs.Good.{GoodRoad};
-ghost use Rattle.sheets.specs.Read.{read_period};
 ghost use Rattle.conditions.specs.Conditions.{segments, entry_under};
 ghost use Rattle.running.specs.Steps.{sheet_by};
 ghost use Rattle.steps.specs.Step.{cell_in};
-ghost use Rattle.facility.specs.Calls.{fresh_on, refused, lay_of, with_sheet, taken_by, take_of, run_of, reported, no_report, level_at, report_of, totals_of, write_road_of, write_period_of};
-ghost use Rattle.facility.specs.Verdicts.{unfinished, number_of, run_verdict};
+ghost use Rattle.door.specs.Sound.{sound};
+ghost use Rattle.parts.specs.Good.{GoodRoad};
+ghost use Rattle.facility.specs.Calls.{fresh_on, lay_of, with_sheet, take_of, run_of, reported, level_at, report_of, totals_of, write_road_of, write_period_of};
+ghost use Rattle.facility.specs.Results.{replied, ran, report_told, sums_told, verdict};
+ghost use Rattle.facility.specs.Verdicts.{GoesOn, RefusedBy, unfinished, run_verdict, report_verdict, period_verdict};
 
-use door::{Facility, fields_are_sound, is_sound};
+use door::Facility;
 use letters::Level;
-use numbers::Written;
-
-// What laying, taking and running give: refusal is 0, or its number with its offset; used counts the bytes read.
-#[derive(Clone, Copy)]
-pub struct Reply {
-    pub refusal: u8,
-    pub offset: usize,
-    pub used: usize,
-    pub facility: Facility,
-}
+use refusals::{Refusal, Refused};
+use sheets::Layout;
+use steps::State;
 
 // A segment report: n, q, the last step's f, r, off(y) and y, and the level letter.
-#[derive(Clone, Copy)]
+#[derive(Clone, Copy, Debug, PartialEq, Eq)]
 pub struct SegmentReport {
-    pub refusal: u8,
     pub n: u32,
     pub q: u32,
     pub main: u32,
@@ -38,294 +31,227 @@ pub struct SegmentReport {
 }
 
 // The totals: arrived, left, stored and part-steps.
-#[derive(Clone, Copy)]
+#[derive(Clone, Copy, Debug, PartialEq, Eq)]
 pub struct Sums {
-    pub refusal: u8,
     pub arrived: u64,
     pub left: u64,
     pub stored: u64,
     pub partsteps: u64,
 }
 
+// A laying: the facility, which is the empty one beside a refusal, and how many bytes were used.
+// Stays: a rule of the project. A refused laying returns the empty facility too.
+#[derive(Clone, Copy)]
+pub struct Laid {
+    pub facility: Facility,
+    pub answer: Result<usize, Refused>,
+}
+
+// What stands against every call on the empty facility.
+fn not_empty(f: &Facility) -> Result<(), Refusal>
+    ensures { verdict result ≡ (if sound f.now then GoesOn else RefusedBy 9) }
+{
+    if f.is_sound() {
+        Ok(())
+    } else {
+        Err(Refusal::EmptyFacility)
+    }
+}
+
 // A road just laid.
-fn fresh_on(road: [u32; 452]) -> Facility
+#[tactic(auto, unfolding(crate::specs::Calls::fresh_on))]
+pub fn fresh_on(road: [u32; 452]) -> Facility
     ensures { result ≡ fresh_on road }
 {
-    let none = [0u32; 452];
-    let state = steps::fresh();
     Facility {
         road,
-        period: none,
+        period: [0; 452],
         taken: 0,
         made: 0,
-        state,
+        state: State::fresh(),
         arrived: 0,
         left: 0,
         partsteps: 0,
     }
 }
 
-// A refusal without an offset: the facility comes back as it went in.
-fn refuse(f: Facility, number: u8) -> Reply
-    ensures { result ≡ refused f number 0 }
-{
-    Reply {
-        refusal: number,
-        offset: 0,
-        used: 0,
-        facility: f,
-    }
-}
-
 // Lays a road.
-pub fn lay(bytes: &[u8]) -> Reply
-    ensures { result ≡ lay_of bytes.now }
+#[tactic(auto, using(numbers::proofs::Rows::filled_read, numbers::proofs::Rows::filled_refused), unfolding(crate::specs::Calls::lay_of))]
+pub fn lay(bytes: &[u8]) -> Laid
+    ensures { replied result.answer result.facility ≡ lay_of bytes.now }
 {
-    let sheet = sheets::read_road(bytes);
-    let row = sheet.row;
-    if sheet.refusal == 0 {
-        let laid = fresh_on(row);
-        return Reply {
-            refusal: 0,
-            offset: 0,
-            used: sheet.used,
-            facility: laid,
-        };
-    }
-    let none = [0u32; 452];
-    let empty = fresh_on(none);
-    Reply {
-        refusal: sheet.refusal,
-        offset: sheet.offset,
-        used: 0,
-        facility: empty,
+    match sheets::read_road(bytes) {
+        Ok(sheet) => Laid {
+            facility: fresh_on(sheet.numbers),
+            answer: Ok(sheet.used),
+        },
+        Err(refused) => Laid {
+            facility: fresh_on([0; 452]),
+            answer: Err(refused),
+        },
     }
 }
 
-fn is_unfinished(taken: u32, made: u32) -> bool
-    ensures { result ≡ unfinished taken made }
+// Puts a sheet in force.
+#[tactic(auto, unfolding(crate::specs::Calls::with_sheet))]
+pub fn put_in_force(f: &mut Facility, period: [u32; 452])
+    requires { f.old.taken < 96 }
+    ensures { f.new ≡ with_sheet f.old period }
 {
-    (0 < taken) & (made < 60)
+    f.period = period;
+    f.taken += 1;
+    f.made = 0;
 }
 
-fn with_sheet(f: Facility, period: [u32; 452]) -> Facility
-    requires { f.taken < 96 }
-    ensures { result ≡ with_sheet f period }
+#[tactic(auto, unfolding(crate::specs::Verdicts::unfinished))]
+fn is_unfinished(f: &Facility) -> bool
+    ensures { result ≡ unfinished f.now.taken f.now.made }
 {
-    let road = f.road;
-    let kept = f.state;
-    Facility {
-        road,
-        period,
-        taken: f.taken + 1,
-        made: 0,
-        state: kept,
-        arrived: f.arrived,
-        left: f.left,
-        partsteps: f.partsteps,
-    }
-}
-
-// Reads the sheet and puts it in force.
-fn take_sheet(f: Facility, bytes: &[u8]) -> Reply
-    requires { f.taken < 96 }
-    ensures { result ≡ taken_by f (read_period f.road bytes.now) }
-{
-    let sheet = sheets::read_period(bytes, &f.road);
-    let row = sheet.row;
-    if sheet.refusal == 0 {
-        let next = with_sheet(f, row);
-        return Reply {
-            refusal: 0,
-            offset: 0,
-            used: sheet.used,
-            facility: next,
-        };
-    }
-    Reply {
-        refusal: sheet.refusal,
-        offset: sheet.offset,
-        used: 0,
-        facility: f,
-    }
+    (0 < f.taken) & (f.made < 60)
 }
 
 // Takes a period sheet.
-pub fn take(f: Facility, bytes: &[u8]) -> Reply
-    ensures { result ≡ take_of f bytes.now }
+#[tactic(auto, using(numbers::proofs::Rows::filled_read, numbers::proofs::Rows::filled_refused), unfolding(crate::specs::Calls::take_of, crate::specs::Verdicts::take_verdict))]
+pub fn take(f: &mut Facility, bytes: &[u8]) -> Result<usize, Refused>
+    ensures { replied result f.new ≡ take_of f.old bytes.now }
 {
-    if !is_sound(f) {
-        return refuse(f, 9);
-    }
-    if is_unfinished(f.taken, f.made) {
-        return refuse(f, 12);
+    not_empty(f)?;
+    if is_unfinished(f) {
+        return Err(Refusal::Unfinished.into());
     }
     if 96 <= f.taken {
-        return refuse(f, 13);
+        return Err(Refusal::TooManyPeriods.into());
     }
-    take_sheet(f, bytes)
+    let sheet = sheets::read_period(bytes, &f.road)?;
+    put_in_force(f, sheet.numbers);
+    Ok(sheet.used)
 }
 
-// What stands against a run of k steps: its refusal's number, or 0.
-fn run_refusal(taken: u32, made: u32, k: u32) -> u8
-    requires { made ≤ 60 }
-    ensures { result ≡ number_of (run_verdict taken made k) }
+// What stands against a run of k steps.
+#[tactic(auto, unfolding(crate::specs::Verdicts::run_verdict))]
+fn can_run(f: &Facility, k: u32) -> Result<(), Refusal>
+    requires { f.now.made ≤ 60 }
+    ensures { verdict result ≡ run_verdict f.now.taken f.now.made k }
 {
-    if k < 1 {
-        return 5;
+    if k < 1 || 60 < k {
+        return Err(Refusal::NoSuchRun);
     }
-    if 60 < k {
-        return 5;
+    if f.taken == 0 {
+        return Err(Refusal::NoPeriod);
     }
-    if taken == 0 {
-        return 10;
+    if 60 - f.made < k {
+        return Err(Refusal::TooFewSteps);
     }
-    if 60 - made < k {
-        return 11;
-    }
-    0
+    Ok(())
 }
 
 // Runs k steps.
-pub fn run(f: Facility, k: u32) -> Reply
-    ensures { result ≡ run_of f k }
+#[tactic(auto, using(crate::proofs::Open::open_short, crate::proofs::Open::open_ready), unfolding(crate::specs::Calls::run_of))]
+pub fn run(f: &mut Facility, k: u32) -> Result<(), Refusal>
+    ensures { ran result f.new ≡ run_of f.old k }
 {
-    if !fields_are_sound(
-        &f.road,
-        &f.period,
-        f.taken,
-        f.made,
-        f.state,
-        f.arrived,
-        f.left,
-        f.partsteps,
-    ) {
-        return refuse(f, 9);
-    }
-    let number = run_refusal(f.taken, f.made, k);
-    if number != 0 {
-        return refuse(f, number);
-    }
-    let g = running::make_steps(f, k);
-    Reply {
-        refusal: 0,
-        offset: 0,
-        used: 0,
-        facility: g,
-    }
+    not_empty(f)?;
+    can_run(f, k)?;
+    running::make_steps(f, k);
+    Ok(())
 }
 
-// A refused report: every number 0 and the letter A.
-fn no_report(number: u8) -> SegmentReport
-    ensures { result ≡ no_report number }
+// What stands against a report of a segment.
+#[tactic(auto, unfolding(crate::specs::Verdicts::report_verdict, parts::specs::Parts::road_globals))]
+fn can_report(f: &Facility, segment: u32) -> Result<(), Refusal>
+    ensures { verdict result ≡ report_verdict f.now.road segment }
 {
-    SegmentReport {
-        refusal: number,
-        n: 0,
-        q: 0,
-        main: 0,
-        ramp: 0,
-        off: 0,
-        out: 0,
-        level: Level::A,
+    if segment < 1 || f.road[0] < segment {
+        Err(Refusal::NoSuchSegment)
+    } else {
+        Ok(())
     }
 }
 
 // The lanes that the letter of segment i, counted from 0, reckons with: those in force.
-fn lanes_at<'a>(taken: u32, road: &'a [u32; 452], period: &'a [u32; 452], i: usize) -> u32
+#[tactic(auto, using(crate::proofs::Letters::lanes_before, crate::proofs::Letters::lanes_under))]
+fn lanes_at(f: &Facility, i: usize) -> u32
     requires { i < 64 }
-    ensures { result ≡ (entry_under road.now (sheet_by taken period.now) i).opened }
+    ensures { result ≡ (entry_under f.now.road (sheet_by f.now.taken f.now.period) i).opened }
 {
-    if taken == 0 {
-        return parts::segment_at(road, i as u32).lanes;
+    if f.taken == 0 {
+        parts::segment_at(&f.road, i as u32).lanes
+    } else {
+        parts::entry_at(&f.period, i as u32).opened
     }
-    parts::entry_at(period, i as u32).opened
 }
 
 // The report of segment i, counted from 0.
-fn report_at(f: Facility, i: usize) -> SegmentReport
-    requires { GoodRoad f.road × (i < segments f.road) }
-    ensures { result ≡ reported (cell_in f.state i) (level_at f i) }
+#[tactic(auto, using(crate::proofs::Letters::letter_is))]
+fn report_at(f: &Facility, i: usize) -> SegmentReport
+    requires { GoodRoad f.now.road × (i < segments f.now.road) }
+    ensures { report_told (Ok result) ≡ reported (cell_in f.now.state i) (level_at f.now i) }
 {
-    let state = f.state;
-    let cell = state.cells[i];
-    let seg = parts::segment_at(&f.road, i as u32);
-    let lanes = lanes_at(f.taken, &f.road, &f.period, i);
-    let level = letters::level_of(cell.n, seg.length, lanes);
+    let cell = f.state.cells[i];
+    let length = parts::segment_at(&f.road, i as u32).length;
+    let lanes = lanes_at(f, i);
     SegmentReport {
-        refusal: 0,
         n: cell.n,
         q: cell.q,
         main: cell.main,
         ramp: cell.ramp,
         off: cell.off,
         out: cell.out,
-        level,
+        level: letters::level_of(cell.n, length, lanes),
     }
 }
 
 // Reports on a segment, counted from 1.
-pub fn report(f: Facility, segment: u32) -> SegmentReport
-    ensures { result ≡ report_of f segment }
+#[tactic(auto, using(crate::proofs::Open::open_road, crate::proofs::Verdicts::report_accepted), unfolding(crate::specs::Calls::report_of, parts::specs::Parts::road_globals))]
+pub fn report(f: &Facility, segment: u32) -> Result<SegmentReport, Refusal>
+    ensures { report_told result ≡ report_of f.now segment }
 {
-    if !is_sound(f) {
-        return no_report(9);
-    }
-    let road = f.road;
-    if segment < 1 {
-        return no_report(6);
-    }
-    if road[0] < segment {
-        return no_report(6);
-    }
-    report_at(f, (segment - 1) as usize)
+    not_empty(f)?;
+    can_report(f, segment)?;
+    Ok(report_at(f, segment as usize - 1))
 }
 
 // The totals.
-pub fn totals(f: Facility) -> Sums
-    ensures { result ≡ totals_of f }
+#[tactic(auto, using(crate::proofs::Open::open_road), unfolding(crate::specs::Calls::totals_of, parts::specs::Parts::road_globals))]
+pub fn totals(f: &Facility) -> Result<Sums, Refusal>
+    ensures { sums_told result ≡ totals_of f.now }
 {
-    if !is_sound(f) {
-        return Sums {
-            refusal: 9,
-            arrived: 0,
-            left: 0,
-            stored: 0,
-            partsteps: 0,
-        };
-    }
-    let road = f.road;
-    let state = f.state;
-    Sums {
-        refusal: 0,
+    not_empty(f)?;
+    Ok(Sums {
         arrived: f.arrived,
         left: f.left,
-        stored: steps::stored(road[0] as usize, state),
+        stored: steps::stored(f.road[0] as usize, &f.state),
         partsteps: f.partsteps,
-    }
+    })
 }
 
 // Writes the road into a lent buffer from a place.
-pub fn write_road(f: Facility, buffer: &mut [u8], at: usize) -> Written
-    ensures { record { answer = writing result; buffer = buffer.new } ≡ write_road_of f buffer.old at }
+#[tactic(auto, unfolding(crate::specs::Calls::write_road_of, sheets::specs::Write::sheet_row))]
+pub fn write_road(f: &Facility, buffer: &mut [u8], at: usize) -> Result<usize, Refusal>
+    ensures { record { answer = writing result; buffer = buffer.new } ≡ write_road_of f.now buffer.old at }
 {
-    if !is_sound(f) {
-        return Written::Refused(9);
+    not_empty(f)?;
+    sheets::write_sheet(buffer, at, Layout::Road(f.road[0]), &f.road)
+}
+
+// What stands against writing the period in force.
+#[tactic(auto, unfolding(crate::specs::Verdicts::period_verdict))]
+fn can_write_period(f: &Facility) -> Result<(), Refusal>
+    ensures { verdict result ≡ period_verdict f.now.taken }
+{
+    if f.taken == 0 {
+        Err(Refusal::NoPeriod)
+    } else {
+        Ok(())
     }
-    let road = f.road;
-    sheets::write_road(buffer, at, road)
 }
 
 // Writes the period in force into a lent buffer from a place.
-pub fn write_period(f: Facility, buffer: &mut [u8], at: usize) -> Written
-    ensures { record { answer = writing result; buffer = buffer.new } ≡ write_period_of f buffer.old at }
+#[tactic(auto, unfolding(crate::specs::Calls::write_period_of, sheets::specs::Write::sheet_row))]
+pub fn write_period(f: &Facility, buffer: &mut [u8], at: usize) -> Result<usize, Refusal>
+    ensures { record { answer = writing result; buffer = buffer.new } ≡ write_period_of f.now buffer.old at }
 {
-    if !is_sound(f) {
-        return Written::Refused(9);
-    }
-    if f.taken == 0 {
-        return Written::Refused(10);
-    }
-    let period = f.period;
-    sheets::write_period(buffer, at, period)
+    not_empty(f)?;
+    can_write_period(f)?;
+    sheets::write_sheet(buffer, at, Layout::Period(f.period[0]), &f.period)
 }

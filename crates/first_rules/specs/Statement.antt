@@ -1,5 +1,5 @@
 -- Document 02, Q-2: "Forecasts from a converted study must equal those of the first rules for every step." The claims on a study and a lent target, by
--- what the calls `to_second` and `to_first` answer.
+-- what the call `convert` answers, each way.
 use Rattle.std.specs.Prelude.{ℕ, ◌≡◌, List, take}
 use Rattle.facility.specs.Ledger.{Book, present}
 use Rattle.study.specs.Forecast.{Ended, RefusedStudy, outcome_by, forecast_by, forecast_of}

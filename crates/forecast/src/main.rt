@@ -1,15 +1,17 @@
 // Reads a study from standard input and prints its listing, or the one line of its refusal.
 #![tactic(auto)]
 
-// The buffer serves every study: the refusal of a longer one is decided within its first 32,300 bytes.
+use std::io::{Read, Write};
+
+// Answers what went wrong, if something did. The buffer serves every study: the refusal of a longer one is decided within its first 32,300 bytes.
+fn forecast<R: Read, W: Write>(source: &mut R, output: &mut W) -> Result<(), &'static str> {
+    let mut buffer = [0; input::STUDY_ROOM];
+    let study = input::read_to_end(source, &mut buffer).map_err(|_| "cannot read the study")?;
+    listing::print_study(output, study).map_err(|_| "cannot write the listing")
+}
+
 fn main(rt: HostRuntime) {
-    let mut buffer = input::large_buffer();
-    let got = input::read_to_end(&mut rt.stdin(), &mut buffer);
-    if got.failed {
-        let _ = eprintln!(rt; "forecast: cannot read the study");
-        return;
-    }
-    if !listing::print_study(&mut rt.stdout(), &buffer[..got.length]) {
-        let _ = eprintln!(rt; "forecast: cannot write the listing");
+    if let Err(what) = forecast(&mut rt.stdin(), &mut rt.stdout()) {
+        let _ = eprintln!(rt; "forecast: {what}");
     }
 }

@@ -1,155 +1,85 @@
 // From text to bytes. On bad text one line goes to the file for complaints, and no byte is written.
 #![tactic(auto)]
 
-ghost use Rattle.std.specs.Prelude.{◌+◌, ◌≤◌, length};
+mod bytes;
+mod faults;
 
-use input::{Kind, Line};
-use numbers::Written;
+use bytes::Bytes;
+use faults::Fault;
+use input::{CHUNK_ROOM, Line, Lines};
 use std::io::{Read, Write};
-use text::Numeral;
 
-// The bytes put so far, and whether the text goes on.
-#[derive(Clone, Copy)]
-struct Done {
-    used: usize,
-    more: bool,
+// The byte order mark, which may stand before the first line.
+const MARK: [u8; 3] = [0xEF, 0xBB, 0xBF];
+
+fn without_mark(line: &[u8], number: u64) -> &[u8] {
+    if number == 1 {
+        return line.strip_prefix(&MARK).unwrap_or(line);
+    }
+    line
 }
 
-// Puts a number's bytes, and tells how many: 0 where there is no room.
-fn put(out: &mut [u8], at: usize, value: u32) -> usize
-    requires { at ≤ length out.old }
-    ensures { at + result ≤ length out.old }
-{
-    match numbers::write(out, at, value) {
-        Written::Count(n) => n,
-        Written::Refused(_) => 0,
+// A word that is no number, by what stands behind it in its line.
+fn bad_word(number: u64, line: &[u8], word: &[u8], behind: &[u8]) -> Fault {
+    let before = line.len().saturating_sub(word.len() + behind.len());
+    Fault::NoNumber {
+        line: number,
+        column: before + 1,
     }
 }
 
-fn complain<W: Write>(errors: &mut W, what: &str) {
-    let _ = writeln!(errors, "study_from_text: {what}");
-}
-
-// Of a word that starts at a place of a line, counted from 0.
-fn complain_of_word<W: Write>(errors: &mut W, line: u64, place: usize) {
-    let column = column(place);
-    let _ = writeln!(
-        errors,
-        "study_from_text: line {line}, column {column}: not a decimal number up to 4294967295"
-    );
-}
-
-// Of a line that does not fit, or whose bytes do not.
-fn complain_of_room<W: Write>(errors: &mut W, line: u64, what: &str, room: usize) {
-    let _ = writeln!(errors, "study_from_text: line {line}{what}{room} bytes");
-}
-
-fn complain_of_bytes<W: Write>(errors: &mut W, line: u64, room: usize) {
-    complain_of_room(
-        errors,
-        line,
-        ": up to here the numbers take more than ",
-        room,
-    );
-}
-
-fn column(place: usize) -> u64 {
-    if place < 4294967295 {
-        place as u64 + 1
-    } else {
-        4294967295
+// Puts the bytes of a line's numbers behind those before.
+fn put_line(number: u64, line: &[u8], bytes: &mut Bytes) -> Result<(), Fault> {
+    let room = bytes.capacity();
+    let mut rest = line;
+    while let Some((word, behind)) = text::next_word(rest) {
+        let Some(value) = text::number(word) else {
+            return Err(bad_word(number, line, word, behind));
+        };
+        bytes
+            .put(value)
+            .map_err(|_| Fault::TooManyBytes { line: number, room })?;
+        rest = behind;
     }
+    Ok(())
 }
 
-// Puts the bytes of a line's numbers behind those before, up to a word that is no number or bytes that do not fit, of which it complains.
-fn put_line<W: Write>(
-    errors: &mut W,
-    number: u64,
-    line: &[u8],
-    out: &mut [u8],
-    start: usize,
-) -> Done
-    requires { start ≤ length out.old }
-    ensures { result.used ≤ length out.new }
-{
-    let mut used = start;
-    let mut at: usize = 0;
-    while at < line.len() {
-        let w = text::next_word(line, at);
-        if w.end <= w.start {
-            return Done { used, more: true };
+// Puts the bytes of the text's numbers, line by line.
+fn put_lines<R: Read>(source: &mut R, buffer: &mut [u8], bytes: &mut Bytes) -> Result<(), Fault> {
+    let room = buffer.len();
+    let mut lines = Lines::<_, CHUNK_ROOM>::new(source);
+    for number in 1..=u64::MAX {
+        let Some(line) = lines.next_line(buffer).map_err(|_| Fault::Unread)? else {
+            break;
+        };
+        match line {
+            Line::Whole(line) => put_line(number, without_mark(line, number), bytes)?,
+            Line::Long(_) => return Err(Fault::LongLine { line: number, room }),
         }
-        match text::number(&line[w.start..w.end]) {
-            Numeral::Value(value) => {
-                let n = put(out, used, value);
-                if n == 0 {
-                    complain_of_bytes(errors, number, out.len());
-                    return Done { used, more: false };
-                }
-                used += n;
-            }
-            Numeral::Other => {
-                complain_of_word(errors, number, w.start);
-                return Done { used, more: false };
-            }
-        }
-        at = w.end;
     }
-    Done { used, more: true }
+    Ok(())
 }
 
-// How many bytes a byte order mark takes at the start of a text.
-fn mark(line: &[u8], number: u64) -> usize
-    ensures { result ≤ length line.now }
-{
-    if 1 < number {
-        return 0;
+fn write_bytes<W: Write>(output: &mut W, bytes: &[u8]) -> Result<(), Fault> {
+    if bytes.is_empty() {
+        return Err(Fault::Empty);
     }
-    if line.len() < 3 {
-        return 0;
-    }
-    let is_mark = (line[0] == 0xEF) & (line[1] == 0xBB) & (line[2] == 0xBF);
-    if is_mark { 3 } else { 0 }
+    output.write_all(bytes).map_err(|_| Fault::Unwritten)
 }
 
-fn write_bytes<W: Write, E: Write>(output: &mut W, errors: &mut E, bytes: &[u8]) {
-    if bytes.len() == 0 {
-        complain(errors, "there is no number in the text");
-        return;
-    }
-    if output.write_all(bytes).is_err() {
-        complain(errors, "cannot write the bytes");
-    }
-}
-
-// Takes what a read of a line gave; at the text's end its bytes are written.
-fn take_line<W: Write, E: Write>(
+fn turn_whole<R: Read, W: Write>(
+    source: &mut R,
     output: &mut W,
-    errors: &mut E,
-    number: u64,
-    got: Line,
-    line: &[u8],
+    line: &mut [u8],
     out: &mut [u8],
-    used: usize,
-) -> Done
-    requires of_line { got.length ≤ length line.now }
-    requires of_bytes { used ≤ length out.old }
-    ensures { result.used ≤ length out.new }
-{
-    let n = got.length;
-    match got.kind {
-        Kind::Whole => {
-            let from = mark(&line[..n], number);
-            return put_line(errors, number, &line[from..n], out, used);
-        }
-        Kind::Long => complain_of_room(errors, number, ": longer than ", line.len()),
-        Kind::End => write_bytes(output, errors, &out[..used]),
-        Kind::Failed => complain(errors, "cannot read the text"),
-    }
-    Done { used, more: false }
+) -> Result<(), Fault> {
+    let mut bytes = Bytes::new(out);
+    put_lines(source, line, &mut bytes)?;
+    write_bytes(output, bytes.as_slice())
 }
 
 // Turns the text of a study, or of any row of numbers, into its bytes. A line has to fit its buffer, and the bytes theirs.
+// Stays: fixed memory. A library takes no heap, so the caller lends both buffers.
 pub fn turn<R: Read, W: Write, E: Write>(
     source: &mut R,
     output: &mut W,
@@ -157,16 +87,7 @@ pub fn turn<R: Read, W: Write, E: Write>(
     line: &mut [u8],
     out: &mut [u8],
 ) {
-    let mut chunk = input::buffer();
-    let mut s = input::start();
-    let mut used: usize = 0;
-    for before in 0..u64::MAX {
-        let got = input::next_line(source, s, &mut chunk, line);
-        let done = take_line(output, errors, before + 1, got, line, out, used);
-        if !done.more {
-            return;
-        }
-        used = done.used;
-        s = got.source;
+    if let Err(fault) = turn_whole(source, output, line, out) {
+        let _ = writeln!(errors, "study_from_text: {fault}");
     }
 }

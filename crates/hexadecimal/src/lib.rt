@@ -1,53 +1,60 @@
 // Bytes in hexadecimal, two digits each.
 #![tactic(auto)]
 
-ghost use Rattle.std.specs.Prelude.{◌≡◌, ◌≤◌, length};
-ghost use Rattle.hexadecimal.specs.Spelling.{hex_value, read_bytes, HasBytes};
+ghost use Rattle.std.specs.Prelude.{◌≡◌, ◌≤◌, ◌<◌, length, IfSome, IfOk, MatchResult, Ok, Err};
+ghost use Rattle.hexadecimal.specs.Spelling.{hex_value, byte_of, read_bytes, HasBytes};
 
-// How many bytes a word spells, or that it is too long for the room, or not bytes in hexadecimal.
-#[derive(Clone, Copy)]
-pub enum Spelled {
-    Count(usize),
+// Why a word gives no bytes: they are more than the room has, or it is not bytes in hexadecimal.
+#[derive(Clone, Copy, PartialEq, Eq, Debug)]
+pub enum SpellingError {
     TooLong,
-    Other,
+    NotHexadecimal,
 }
 
-// A hexadecimal digit's value, 16 for any other byte.
-fn hex_value(b: u8) -> u8
-    ensures { (result ≡ hex_value b) × (result ≤ 16) }
+// The value of a hexadecimal digit.
+#[tactic(auto, unfolding(crate::specs::Spelling::hex_value, text::specs::Text::is_digit))]
+fn hex_value(b: u8) -> Option<u8>
+    ensures value { result ≡ hex_value b }
+    ensures range { IfSome result (λ v. v < 16) }
 {
-    if text::is_digit(b) {
-        return b - 48;
+    match b {
+        b'0'..=b'9' => Some(b - b'0'),
+        b'a'..=b'f' => Some(b - b'a' + 10),
+        b'A'..=b'F' => Some(b - b'A' + 10),
+        _ => None,
     }
-    if (97 <= b) & (b <= 102) {
-        return b - 87;
-    }
-    if (65 <= b) & (b <= 70) {
-        return b - 55;
-    }
-    16
 }
 
-// The bytes that a word spells, two digits each, put at the start of a lent buffer.
-pub fn bytes(word: &[u8], out: &mut [u8]) -> Spelled
-    ensures { (result ≡ read_bytes (length out.old) word.now) × HasBytes result word.now out.new }
+// The byte that two digits spell.
+#[tactic(auto, unfolding(crate::specs::Spelling::byte_of))]
+fn byte_of(high: u8, low: u8) -> Option<u8>
+    ensures { result ≡ byte_of (hex_value high) (hex_value low) }
 {
-    let all = word.len();
-    if out.len() < all / 2 {
-        return Spelled::TooLong;
+    let high = hex_value(high)?;
+    let low = hex_value(low)?;
+    Some(16 * high + low)
+}
+
+// The bytes that a word spells, two digits each, which stand at the start of a lent buffer.
+pub fn bytes<'a>(word: &[u8], out: &'a mut [u8]) -> Result<&'a [u8], SpellingError>
+    ensures spelled { MatchResult result
+        (λ bytes. (Ok (length bytes.now) ≡ read_bytes (length out.old) word.now) × HasBytes (Ok (length bytes.now)) word.now bytes.now)
+        (λ error. Err error ≡ read_bytes (length out.old) word.now) }
+    ensures within { IfOk result (λ bytes. length bytes.now ≤ length out.old) }
+{
+    let count = word.len() / 2;
+    if out.len() < count {
+        return Err(SpellingError::TooLong);
     }
-    let mut n: usize = 0;
-    while n < all / 2 {
-        let high = hex_value(word[2 * n]);
-        let low = hex_value(word[2 * n + 1]);
-        if (15 < high) | (15 < low) {
-            return Spelled::Other;
-        }
-        out[n] = 16 * high + low;
-        n += 1;
+    // Stays: the proof did not close. Over `chunks_exact(2).enumerate()` what the buffer has by then has to be said of what the chunks have left.
+    for n in 0..count {
+        let Some(byte) = byte_of(word[2 * n], word[2 * n + 1]) else {
+            return Err(SpellingError::NotHexadecimal);
+        };
+        out[n] = byte;
     }
-    if all % 2 == 1 {
-        return Spelled::Other;
+    if word.len() % 2 == 1 {
+        return Err(SpellingError::NotHexadecimal);
     }
-    Spelled::Count(n)
+    Ok(&out[..count])
 }

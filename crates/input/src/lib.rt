@@ -1,11 +1,21 @@
 // Reading a file, whole or line by line. Only a read that gives no bytes is the end, and a file whose end was seen is not read again.
 #![tactic(auto)]
 
-ghost use Rattle.std.specs.Prelude.{◌≡◌, ◌≤◌, length};
+ghost use Rattle.std.specs.Prelude.{◌≡◌, ◌≤◌, length, MatchResult, IfOk, IfSome};
+ghost use Rattle.input.specs.Lines.{line_length};
 
 use std::io::{Read, Write};
 use std::rt::Files;
 use std::{fs, io};
+
+// Room for the bytes of every study.
+pub const STUDY_ROOM: usize = 65536;
+
+// Room for a line of text: every study's bytes in hexadecimal fit it, and its numbers in decimal with a space between them.
+pub const LINE_ROOM: usize = 98304;
+
+// Room for a chunk of a file.
+pub const CHUNK_ROOM: usize = 4096;
 
 // A file that was to be opened; where it was not, each read and write fails as the opening did.
 #[derive(Drop)]
@@ -40,220 +50,149 @@ impl<F: Write> Write for Opened<F> {
 
 // A path is text.
 fn path(name: &[u8]) -> io::Result<&str> {
-    match str::from_utf8(name) {
-        Ok(path) => Ok(path),
-        Err(_) => Err(io::Error::from(io::ErrorKind::InvalidInput)),
-    }
-}
-
-fn open_path<R: Files>(files: &R, name: &[u8]) -> io::Result<R::File> {
-    fs::open(files, path(name)?)
-}
-
-fn create_path<R: Files>(files: &R, name: &[u8]) -> io::Result<R::File> {
-    fs::create(files, path(name)?)
+    str::from_utf8(name).map_err(|_| io::Error::from(io::ErrorKind::InvalidInput))
 }
 
 // Opens a file that is to be read.
 pub fn open<R: Files>(files: &R, name: &[u8]) -> Opened<R::File> {
     Opened {
-        file: open_path(files, name),
+        file: path(name).and_then(|path| fs::open(files, path)),
     }
 }
 
 // Opens a file that is to be written from its start, and empties it.
 pub fn create<R: Files>(files: &R, name: &[u8]) -> Opened<R::File> {
     Opened {
-        file: create_path(files, name),
+        file: path(name).and_then(|path| fs::create(files, path)),
     }
 }
 
-// How many bytes were read, and whether a read failed.
+// A read failed: the bytes that were read before it.
 #[derive(Clone, Copy)]
-pub struct Reading {
-    pub length: usize,
-    pub failed: bool,
+pub struct CutOff<'a> {
+    pub bytes: &'a [u8],
 }
 
-// Reads until the file ends, a read fails or the buffer is full.
-pub fn read_to_end<R: Read>(file: &mut R, buffer: &mut [u8]) -> Reading
-    ensures { result.length ≤ length buffer.new }
+// Reads until the file ends, a read fails or the buffer is full, and gives the bytes that were read, which stand at the buffer's start.
+pub fn read_to_end<'a, R: Read>(file: &mut R, buffer: &'a mut [u8]) -> Result<&'a [u8], CutOff<'a>>
+    ensures { MatchResult result (λ bytes. length bytes.now ≤ length buffer.old) (λ cut. length cut.bytes.now ≤ length buffer.old) }
 {
-    let mut n: usize = 0;
-    while n < buffer.len() {
-        match file.read(&mut buffer[n..]) {
-            Ok(0) => {
-                return Reading {
-                    length: n,
-                    failed: false,
-                };
-            }
-            Ok(more) => n += more,
+    let mut length = 0;
+    // Stays: no plainer. How much a read gives is known when it was made, so no `for` goes over the buffer.
+    while length < buffer.len() {
+        match file.read(&mut buffer[length..]) {
+            Ok(0) => break,
+            Ok(more) => length += more,
             Err(_) => {
-                return Reading {
-                    length: n,
-                    failed: true,
-                };
+                return Err(CutOff {
+                    bytes: &buffer[..length],
+                });
             }
         }
     }
-    Reading {
-        length: n,
-        failed: false,
-    }
+    Ok(&buffer[..length])
 }
 
-// Room for a chunk of a file.
-pub fn buffer() -> [u8; 4096]
-    ensures { 4096 ≡ length result }
-{
-    [0; 4096]
-}
-
-// Room for the bytes of every study.
-pub fn large_buffer() -> [u8; 65536]
-    ensures { 65536 ≡ length result }
-{
-    [0; 65536]
-}
-
-// Room for a line of text: every study's bytes in hexadecimal fit it, and its numbers in decimal with a space between them.
-pub fn line_room() -> [u8; 98304]
-    ensures { 98304 ≡ length result }
-{
-    [0; 98304]
-}
-
-// What of a file was read: the next byte of a chunk and the count of the chunk's bytes, whether the end was seen, whether a read
-// failed, and whether the last line ended in a carriage return.
+// A line without its end, or the start of one that is longer than its buffer.
 #[derive(Clone, Copy)]
-pub struct Source {
+pub enum Line<'a> {
+    Whole(&'a [u8]),
+    Long(&'a [u8]),
+}
+
+// A file that is read line by line: its last chunk, of which `at` of `count` bytes are taken; how the file ended, once it did; and whether
+// the last byte was a carriage return.
+// Stays: fixed memory. What is left of the chunk is no slice, since a struct holds none of its own array, so two places tell it.
+#[derive(Drop)]
+pub struct Lines<'a, R, const N: usize> {
+    file: &'a mut R,
+    chunk: [u8; N],
     at: usize,
     count: usize,
-    ended: bool,
-    failed: bool,
+    end: Option<io::Result<()>>,
     returned: bool,
+    ghost within: { (at ≤ count) × (count ≤ N) },
 }
 
-// A file of which nothing was read yet.
-pub fn start() -> Source {
-    Source {
-        at: 0,
-        count: 0,
-        ended: false,
-        failed: false,
-        returned: false,
+impl<'a, R: Read, const N: usize> Lines<'a, R, N> {
+    // A file of which nothing was read yet.
+    pub fn new(file: &'a mut R) -> Self {
+        Lines {
+            file,
+            chunk: [0; N],
+            at: 0,
+            count: 0,
+            end: None,
+            returned: false,
+        }
     }
-}
 
-// Whether nothing is left to read.
-pub fn is_at_end(source: Source) -> bool {
-    source.ended & (source.count <= source.at)
-}
-
-// What a read of a line gave: the whole line, the start of one that is longer than the buffer, the end of the file, or a failed read.
-#[derive(Clone, Copy)]
-pub enum Kind {
-    Whole,
-    Long,
-    End,
-    Failed,
-}
-
-// A line without its end, by its length at the start of the buffer, and what is left to read.
-#[derive(Clone, Copy)]
-pub struct Line {
-    pub kind: Kind,
-    pub length: usize,
-    pub source: Source,
-}
-
-// Reads the next chunk.
-fn refill<R: Read>(file: &mut R, source: Source, chunk: &mut [u8]) -> Source {
-    let (count, failed) = match file.read(chunk) {
-        Ok(count) => (count, false),
-        Err(_) => (0, true),
-    };
-    Source {
-        at: 0,
-        count,
-        ended: count == 0,
-        failed,
-        returned: source.returned,
-    }
-}
-
-fn byte_at(chunk: &[u8], at: usize) -> u8 {
-    if at < chunk.len() { chunk[at] } else { 0 }
-}
-
-// After the next byte of the chunk.
-fn past(source: Source, byte: u8) -> Source {
-    if source.count <= source.at {
-        return source;
-    }
-    Source {
-        at: source.at + 1,
-        count: source.count,
-        ended: source.ended,
-        failed: source.failed,
-        returned: byte == 13,
-    }
-}
-
-// What a read of a line gave; a failed read comes before all else, so that no half line is taken.
-fn kind_of(source: Source, is_long: bool, length: usize) -> Kind {
-    if source.failed {
-        return Kind::Failed;
-    }
-    if is_long {
-        return Kind::Long;
-    }
-    if source.ended & (length == 0) {
-        return Kind::End;
-    }
-    Kind::Whole
-}
-
-fn line_of(source: Source, is_long: bool, length: usize) -> Line
-    ensures { result.length ≤ length }
-{
-    let kind = kind_of(source, is_long, length);
-    Line {
-        kind,
-        length,
-        source,
-    }
-}
-
-// Takes the next line, which a line feed, a carriage return or both end. Of a line that is longer than the buffer the rest is passed over.
-pub fn next_line<R: Read>(file: &mut R, source: Source, chunk: &mut [u8], line: &mut [u8]) -> Line
-    ensures { result.length ≤ length line.new }
-{
-    let mut s = source;
-    let mut n: usize = 0;
-    let mut is_long = false;
-    for _ in 0..u64::MAX {
-        if s.count <= s.at {
-            if s.ended {
-                return line_of(s, is_long, n);
-            }
-            s = refill(file, s, chunk);
-        } else {
-            let b = byte_at(chunk, s.at);
-            let is_second = s.returned & (b == 10);
-            s = past(s, b);
-            if (b == 10) | (b == 13) {
-                if !is_second {
-                    return line_of(s, is_long, n);
+    // Reads the next chunk, unless the end was seen or a read failed.
+    fn refill(&mut self) -> io::Result<()> {
+        if let Some(end) = self.end {
+            return end;
+        }
+        match self.file.read(&mut self.chunk) {
+            Ok(count) => {
+                self.at = 0;
+                self.count = count;
+                if count == 0 {
+                    self.end = Some(Ok(()));
                 }
-            } else if n < line.len() {
-                line[n] = b;
-                n += 1;
+                Ok(())
+            }
+            Err(error) => {
+                self.end = Some(Err(error));
+                Err(error)
+            }
+        }
+    }
+
+    // Takes the next byte, none at the file's end.
+    fn next_byte(&mut self) -> io::Result<Option<u8>> {
+        if self.at == self.count {
+            self.refill()?;
+        }
+        if self.at == self.count {
+            return Ok(None);
+        }
+        let byte = self.chunk[self.at];
+        self.at += 1;
+        Ok(Some(byte))
+    }
+
+    // Takes the next line, which a line feed, a carriage return or both end; none at the file's end. Of a line that is longer than the
+    // buffer the rest is passed over. A read that fails comes before all else, so that no half line is taken.
+    pub fn next_line<'l>(&mut self, line: &'l mut [u8]) -> io::Result<Option<Line<'l>>>
+        ensures { IfOk result (λ taken. IfSome taken (λ l. line_length l ≤ length line.old)) }
+    {
+        let mut length = 0;
+        let mut is_long = false;
+        for _ in 0..u64::MAX {
+            let Some(byte) = self.next_byte()? else {
+                if length == 0 && !is_long {
+                    return Ok(None);
+                }
+                break;
+            };
+            let is_second = self.returned && byte == b'\n';
+            self.returned = byte == b'\r';
+            if byte == b'\n' || byte == b'\r' {
+                if !is_second {
+                    break;
+                }
+            } else if length < line.len() {
+                line[length] = byte;
+                length += 1;
             } else {
                 is_long = true;
             }
         }
+        let taken = &line[..length];
+        Ok(Some(if is_long {
+            Line::Long(taken)
+        } else {
+            Line::Whole(taken)
+        }))
     }
-    line_of(s, is_long, n)
 }

@@ -2,10 +2,10 @@
 use mathlib.Core.Path.{◌≡◌, refl}
 use mathlib.Core.List.{[], ◌∷◌, map}
 use Rattle.letters.specs.declared.Level.TheVariants.{A, B, C, D, E, F}
-use Rattle.letters.specs.Level.{holds_at_most, level_by, level_of}
+use Rattle.letters.specs.Level.{graded, holds_at_most, level_by, level_of}
 
 levels :
     map (λ n. level_of n 1320 1) (660 ∷ 661 ∷ 1080 ∷ 1081 ∷ 1560 ∷ 1561 ∷ 2100 ∷ 2101 ∷ 2700 ∷ 2701 ∷ []) ≡
     A ∷ B ∷ B ∷ C ∷ C ∷ D ∷ D ∷ E ∷ E ∷ F ∷ []
-unfolding level_of level_by holds_at_most
+unfolding level_of level_by graded holds_at_most
 levels = refl

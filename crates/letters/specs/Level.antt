@@ -3,19 +3,23 @@ use Rattle.std.specs.Prelude.{ℕ, ◌*◌, Bool, leb, if◌then◌else◌}
 use Rattle.letters.specs.declared.Level.{Level}
 use Rattle.letters.specs.declared.Level.TheVariants.{A, B, C, D, E, F}
 
+-- A within 11, then B, C, D, E within 18, 26, 35, 45, else F
+unfoldable pub graded : (within : ℕ → Bool) → Level
+graded within =
+    if within 11 then A
+    else if within 18 then B
+    else if within 26 then C
+    else if within 35 then D
+    else if within 45 then E
+    else F
+
 -- 22 × n is at most the limit × L × N, of the area L × N; N are the lanes in force (document 02, Q-1)
 unfoldable pub holds_at_most : (limit parts area : ℕ) → Bool
 holds_at_most k n area = leb (22 * n) (k * area)
 
--- A with 11, then B, C, D, E with 18, 26, 35, 45, else F
+-- the letter of n parts in an area, by the limits that they hold
 unfoldable pub level_by : (parts area : ℕ) → Level
-level_by n area =
-    if holds_at_most 11 n area then A
-    else if holds_at_most 18 n area then B
-    else if holds_at_most 26 n area then C
-    else if holds_at_most 35 n area then D
-    else if holds_at_most 45 n area then E
-    else F
+level_by n area = graded (λ k. holds_at_most k n area)
 
 -- the letter of a segment that holds n parts, of its length and the lanes in force
 unfoldable pub level_of : (parts length lanes : ℕ) → Level

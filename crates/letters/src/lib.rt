@@ -1,11 +1,14 @@
-// The level letter of a segment.
+// The level letter of a segment, and the grading by the letters' limits that a facility's letter goes by too.
 #![tactic(auto)]
 
-ghost use Rattle.std.specs.Prelude.{◌≡◌, ◌≤◌};
-ghost use Rattle.letters.specs.Level.{holds_at_most, level_by, level_of, letter_byte};
+ghost use Rattle.std.specs.Prelude.{◌≡◌, ◌∷◌, [], ℕ, Bool, Some, ◌<◌};
+ghost use Rattle.letters.specs.Level.{graded, holds_at_most, level_of, letter_byte};
+
+use std::fmt;
+use std::fmt::Write;
 
 // The level letter.
-#[derive(Clone, Copy)]
+#[derive(Clone, Copy, Debug, PartialEq, Eq)]
 pub enum Level {
     A,
     B,
@@ -15,54 +18,59 @@ pub enum Level {
     F,
 }
 
-// Whether 22 × n is at most the limit × the area, by a quotient, since the product might not fit.
-fn holds_at_most(limit: u64, n: u32, area: u64) -> bool
-    requires { (1 ≤ limit) × (limit ≤ 45) }
-    ensures { result ≡ holds_at_most limit n area }
+// The letter of what is graded, by whether it is within a limit: A within 11, then B, C, D, E within 18, 26, 35, 45, else F.
+pub fn graded<F: Fn(u8) -> bool>(within: F) -> Level
+    requires { F.IsAlwaysCallable within }
+    ensures { (tells : ℕ → Bool) → ((limit : ℕ) (r : Bool) → limit < 256 → F.post within limit r → r ≡ tells limit) → result ≡ graded tells }
 {
-    let need = (22 * arithmetic::wide(n) + (limit - 1)) / limit;
-    need <= area
+    if within(11) {
+        Level::A
+    } else if within(18) {
+        Level::B
+    } else if within(26) {
+        Level::C
+    } else if within(35) {
+        Level::D
+    } else if within(45) {
+        Level::E
+    } else {
+        Level::F
+    }
 }
 
-fn level_by(n: u32, area: u64) -> Level
-    ensures { result ≡ level_by n area }
+// Whether 22 × n is at most the limit × the area. The product stops at the largest number of 64 bits, which 22 × n is below.
+#[tactic(auto, unfolding(crate::specs::Level::holds_at_most))]
+fn holds_at_most(limit: u8, n: u32, area: u64) -> bool
+    ensures { result ≡ holds_at_most limit n area }
 {
-    if holds_at_most(11, n, area) {
-        return Level::A;
-    }
-    if holds_at_most(18, n, area) {
-        return Level::B;
-    }
-    if holds_at_most(26, n, area) {
-        return Level::C;
-    }
-    if holds_at_most(35, n, area) {
-        return Level::D;
-    }
-    if holds_at_most(45, n, area) {
-        return Level::E;
-    }
-    Level::F
+    22 * u64::from(n) <= u64::from(limit).saturating_mul(area)
 }
 
 // The level letter of a segment that holds n parts.
 pub fn level_of(n: u32, length: u32, lanes: u32) -> Level
     ensures { result ≡ level_of n length lanes }
 {
-    level_by(n, arithmetic::wide(length) * arithmetic::wide(lanes))
+    let area = u64::from(length) * u64::from(lanes);
+    graded(
+        |limit: u8| -> bool
+            ensures { result ≡ holds_at_most limit n area }
+        { holds_at_most(limit, n, area) },
+    )
 }
 
-// The byte of a letter.
-#[tactic(auto, unfolding(crate::specs::Level::letter_byte))]
-pub fn letter_byte(level: Level) -> u8
-    ensures { result ≡ letter_byte level }
-{
-    match level {
-        Level::A => 65,
-        Level::B => 66,
-        Level::C => 67,
-        Level::D => 68,
-        Level::E => 69,
-        Level::F => 70,
+// The letter's byte.
+impl From<Level> for u8 {
+    ghost from_gives = { λ level byte. byte ≡ letter_byte level };
+
+    fn from(level: Level) -> u8 {
+        b'A' + level as u8
+    }
+}
+
+impl fmt::Display for Level {
+    ghost output = { λ level. Some (letter_byte level ∷ []) };
+
+    fn fmt<W: fmt::Write>(&self, f: &mut fmt::Formatter<W>) -> fmt::Result {
+        f.write_char(u8::from(*self) as char)
     }
 }

@@ -15,7 +15,7 @@ use Rattle.conditions.specs.Conditions.{open_capacity, parts_at, lowered_by, in_
 use Rattle.rules.specs.Rules.{largest, rounded_up, wish_to_leave, off, remainder_after, through, most_leaving, ramp_wish, entrance, supply, ramp_flow, main_flow, leaving}
 use Rattle.segment.specs.Place.{split_of, wish_of, most_of, onward_of, queued_of, ramp_wish_of, entrance_of, supply_of, inflow_of, leaving_of, moved_of}
 use Rattle.steps.specs.Step.{main_wish_at, queued_at, main_flow_at, replaced, stepped, sum_to, arrived_of, left_of, stored_of}
-use Rattle.letters.specs.Level.{holds_at_most, level_by, level_of}
+use Rattle.letters.specs.Level.{graded, holds_at_most, level_by, level_of}
 use Rattle.door.specs.declared.Facility.{Facility}
 use Rattle.facility.specs.Ledger.{Call, Take, Run, Report, Totals, Answer, Refused, Taken, Ran, Reported, Summed, arrived_in, left_in, partsteps_in, opened, answers}
 use Rattle.facility.specs.Verdicts.{unfinished, take_verdict, run_verdict, report_verdict}
@@ -127,7 +127,7 @@ computed :
     × (answers (opened (road_of road)) filled ≡ said_filled)
     × (answers (opened (road_of road)) lettered ≡ said_lettered)
     × (answers (opened (road_of off_road)) carried ≡ said_carried)
-unfolding read_number groups last more placed in_range read_field road_range period_range range_of count_of road_globals segment_of period_globals entry_of onto and_then fields read_row road_from read_road read_period sheet_reading largest rounded_up parts_at wish_to_leave off remainder_after through most_leaving ramp_wish entrance supply ramp_flow main_flow leaving values_to open_capacity lowered_by in_force demand_under outlet_under entry_under conditions_of split_of wish_of most_of onward_of queued_of ramp_wish_of entrance_of supply_of inflow_of leaving_of moved_of main_wish_at queued_at main_flow_at replaced stepped sum_to arrived_of left_of stored_of holds_at_most level_by level_of unfinished take_verdict run_verdict report_verdict arrived_in left_in partsteps_in
+unfolding read_number groups last more placed in_range read_field road_range period_range range_of count_of road_globals segment_of period_globals entry_of onto and_then fields read_row road_from read_road read_period sheet_reading largest rounded_up parts_at wish_to_leave off remainder_after through most_leaving ramp_wish entrance supply ramp_flow main_flow leaving values_to open_capacity lowered_by in_force demand_under outlet_under entry_under conditions_of split_of wish_of most_of onward_of queued_of ramp_wish_of entrance_of supply_of inflow_of leaving_of moved_of main_wish_at queued_at main_flow_at replaced stepped sum_to arrived_of left_of stored_of graded holds_at_most level_by level_of unfinished take_verdict run_verdict report_verdict arrived_in left_in partsteps_in
 computed = (refl, refl, refl, refl)
 
 -- so these are the answers of the facility's calls

@@ -4,8 +4,7 @@ use Rattle.std.specs.Prelude.{ℕ, ◌≡◌, List, [], ◌∷◌, drop}
 use Rattle.numbers.specs.Number.{Reading, Read, Refused, read_number}
 use Rattle.numbers.specs.Row.{Rows, ReadRow, RefusedAt}
 use Rattle.sheets.specs.Read.{read_road, padded}
-use Rattle.rules.specs.declared.Split.{Split as SplitBy}
-use Rattle.rules.specs.Rules.{off, most_leaving, ramp_flow, main_flow, leaving}
+use Rattle.rules.specs.Rules.{Split as SplitBy, off, most_leaving, ramp_flow, main_flow, leaving}
 use Rattle.steps.specs.Step.{cell_in}
 use Rattle.facility.specs.Ledger.{Take, Run, state_after, left_in, partsteps_in, Book, opened, book_after}
 

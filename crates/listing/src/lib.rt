@@ -1,46 +1,40 @@
 // Prints a forecast as document 01 shows it: the listing, or the one line of a refusal.
 #![tactic(auto)]
 
+use facility::Sums;
+use std::io;
 use std::io::Write;
 use study::{Line, Listing};
 
-fn print_named<W: Write>(output: &mut W, name: &str, value: u64) -> bool {
-    writeln!(output, "{name} {value}").is_ok()
-}
-
 // A segment's line: its number, n, q and the letter.
-fn print_line<W: Write>(output: &mut W, segment: u32, line: Line) -> bool {
-    let n = line.n;
-    let q = line.q;
-    write!(output, "{segment} {n} {q} ").is_ok() & output.write_all(&[line.letter, b'\n']).is_ok()
+fn print_line<W: Write>(output: &mut W, segment: u32, line: Line) -> io::Result<()> {
+    let Line { n, q, level } = line;
+    writeln!(output, "{segment} {n} {q} {level}")
 }
 
-fn print_lines<W: Write>(output: &mut W, segments: u32, lines: &[Line; 64]) -> bool {
-    let mut fine = true;
-    for i in 0..segments.min(64) {
-        fine &= print_line(output, i + 1, lines[i as usize]);
+fn print_listing<W: Write>(output: &mut W, listing: &Listing) -> io::Result<()> {
+    let Sums {
+        arrived,
+        left,
+        stored,
+        partsteps,
+    } = listing.totals;
+    let origin = listing.origin;
+    writeln!(output, "arrived {arrived}")?;
+    writeln!(output, "left {left}")?;
+    writeln!(output, "stored {stored}")?;
+    writeln!(output, "partsteps {partsteps}")?;
+    writeln!(output, "origin {origin}")?;
+    for (segment, line) in (1..).zip(listing.lines.iter().flatten()) {
+        print_line(output, segment, *line)?;
     }
-    fine
+    Ok(())
 }
 
-fn print_refusal<W: Write>(output: &mut W, number: u8, place: usize) -> bool {
-    writeln!(output, "refused {number} {place}").is_ok()
-}
-
-// Answers whether all of it was written.
-fn print<W: Write>(output: &mut W, x: &Listing) -> bool {
-    if x.refusal != 0 {
-        return print_refusal(output, x.refusal, x.place);
+// Prints the forecast of a study.
+pub fn print_study<W: Write>(output: &mut W, bytes: &[u8]) -> io::Result<()> {
+    match study::forecast(bytes) {
+        Ok(listing) => print_listing(output, &listing),
+        Err(refused) => writeln!(output, "{refused}"),
     }
-    print_named(output, "arrived", x.arrived)
-        & print_named(output, "left", x.left)
-        & print_named(output, "stored", x.stored)
-        & print_named(output, "partsteps", x.partsteps)
-        & print_named(output, "origin", x.origin as u64)
-        & print_lines(output, x.segments, &x.lines)
-}
-
-// Prints the forecast of a study, and answers whether all of it was written.
-pub fn print_study<W: Write>(output: &mut W, bytes: &[u8]) -> bool {
-    print(output, &study::forecast(bytes))
 }

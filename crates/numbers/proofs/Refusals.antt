@@ -1,4 +1,4 @@
--- A refusal's number is never 0, so that 0 can stand for "not refused".
+-- A refusal's number is never 0.
 use mathlib.Core.Bool.{Bool, true, false}
 use Prim.Native.Nat.{ℕ, zero, suc, ◌-◌, ◌≤◌}
 use mathlib.Core.List.{List, [], ◌∷◌}
@@ -6,48 +6,79 @@ use native.Mathlib.Omega.{arith}
 use lib.ListN.{drop}
 use lib.Dec.{ltb}
 use Rattle.std.specs.Prelude.{if◌then◌else◌}
+use Rattle.refusals.specs.declared.Refusal.{Refusal}
+use Rattle.refusals.specs.declared.Refusal.TheVariants.{Cut, TooWide, NotShortest, OutOfRange, NoSuchRun, NoSuchSegment, NoRoom, CarryoverLength, EmptyFacility, NoPeriod, TooFewSteps, Unfinished, TooManyPeriods, OtherRoad, DemandOutside, LaneClosed}
+use Rattle.refusals.specs.Numbers.{refusal_number}
 use Rattle.numbers.specs.declared.Range.{Range}
 use Rattle.numbers.specs.Number.{Reading, Read, Refused, last, more, groups, placed, read_number}
 use Rattle.numbers.specs.Field.{in_range, read_field}
 
+pub refusal_named : (e : Refusal) → 1 ≤ refusal_number e
+refusal_named Cut = omega arith
+refusal_named TooWide = omega arith
+refusal_named NotShortest = omega arith
+refusal_named OutOfRange = omega arith
+refusal_named NoSuchRun = omega arith
+refusal_named NoSuchSegment = omega arith
+refusal_named NoRoom = omega arith
+refusal_named CarryoverLength = omega arith
+refusal_named EmptyFacility = omega arith
+refusal_named NoPeriod = omega arith
+refusal_named TooFewSteps = omega arith
+refusal_named Unfinished = omega arith
+refusal_named TooManyPeriods = omega arith
+refusal_named OtherRoad = omega arith
+refusal_named DemandOutside = omega arith
+refusal_named LaneClosed = omega arith
+
+-- where it is a refusal, its number has P
+abbrev pub Told : (P : ℕ → Type 0) → Reading → Type 0
+Told P (Read v n) = 0 ≤ v
+Told P (Refused e) = P e
+
 -- where it is a refusal, its number is not 0
 abbrev pub Named : Reading → Type 0
-Named (Read v n) = 0 ≤ v
-Named (Refused e) = 1 ≤ e
+Named = Told (λ e. 1 ≤ e)
 
-either : (t : Bool) (a b : Reading) → Named a → Named b → Named (if t then a else b)
-either true a b p q = p
-either false a b p q = q
+-- what each refusal's number has, that of a reading has
+module _ (P : ℕ → Type 0) (each : (e : Refusal) → P (refusal_number e)) where
+  either : (t : Bool) (a b : Reading) → Told P a → Told P b → Told P (if t then a else b)
+  either true a b p q = p
+  either false a b p q = q
 
-named_last : (least b : ℕ) → Named (last least b)
-unfolding last
-named_last least b = either (ltb b least) (Refused 3) (Read b 1) (omega arith) (omega arith)
+  told_last : (least b : ℕ) → Told P (last least b)
+  unfolding last
+  told_last least b = either (ltb b least) (Refused 3) (Read b 1) (each NotShortest) (omega arith)
 
-named_more : (g : ℕ) (r : Reading) → Named r → Named (more g r)
-unfolding more
-named_more g (Read v n) h = omega arith
-named_more g (Refused e) h = h
+  told_more : (g : ℕ) (r : Reading) → Told P r → Told P (more g r)
+  unfolding more
+  told_more g (Read v n) h = omega arith
+  told_more g (Refused e) h = h
 
-named_groups : (k least : ℕ) (bs : List ℕ) → Named (groups k least bs)
-unfolding groups
-named_groups zero least [] = omega arith
-named_groups (suc k) least [] = omega arith
-named_groups zero least (b ∷ bs) = either (ltb 15 b) (Refused 2) (last least b) (omega arith) (named_last least b)
-named_groups (suc k) least (b ∷ bs) =
-    either (ltb b 128) _ _ (named_last least b) (named_more (b - 128) _ (named_groups k _ bs))
+  told_groups : (k least : ℕ) (bs : List ℕ) → Told P (groups k least bs)
+  unfolding groups
+  told_groups zero least [] = each Cut
+  told_groups (suc k) least [] = each Cut
+  told_groups zero least (b ∷ bs) = either (ltb 15 b) (Refused 2) (last least b) (each TooWide) (told_last least b)
+  told_groups (suc k) least (b ∷ bs) =
+      either (ltb b 128) _ _ (told_last least b) (told_more (b - 128) _ (told_groups k _ bs))
 
-named_placed : (at : ℕ) (r : Reading) → Named r → Named (placed at r)
-unfolding placed
-named_placed at (Read v n) h = omega arith
-named_placed at (Refused e) h = h
+  told_placed : (at : ℕ) (r : Reading) → Told P r → Told P (placed at r)
+  unfolding placed
+  told_placed at (Read v n) h = omega arith
+  told_placed at (Refused e) h = h
 
-named_range : (r : Range) (x : Reading) → 1 ≤ r.refusal → Named x → Named (in_range r x)
-unfolding in_range
-named_range r (Read v n) h p =
-    either (ltb v r.low) (Refused r.refusal) (if ltb r.high v then Refused r.refusal else Read v n) h
-    (either (ltb r.high v) (Refused r.refusal) (Read v n) h (omega arith))
-named_range r (Refused e) h p = p
+  told_range : (r : Range) (x : Reading) → Told P x → Told P (in_range r x)
+  unfolding in_range
+  told_range r (Read v n) p =
+      let h = each r.refusal in
+      let e = Refused (refusal_number r.refusal) in
+      either (ltb v r.low) e (if ltb r.high v then e else Read v n) h (either (ltb r.high v) e (Read v n) h (omega arith))
+  told_range r (Refused e) p = p
 
-pub named_field : (r : Range) (bytes : List ℕ) (at : ℕ) → 1 ≤ r.refusal → Named (read_field r bytes at)
-unfolding read_field read_number
-named_field r bytes at h = named_range r (read_number bytes at) h (named_placed at (groups 4 0 (drop at bytes)) (named_groups 4 0 (drop at bytes)))
+  pub told_field : (r : Range) (bytes : List ℕ) (at : ℕ) → Told P (read_field r bytes at)
+  unfolding read_field read_number
+  told_field r bytes at = told_range r (read_number bytes at) (told_placed at (groups 4 0 (drop at bytes)) (told_groups 4 0 (drop at bytes)))
+
+pub named_field : (r : Range) (bytes : List ℕ) (at : ℕ) → Named (read_field r bytes at)
+named_field = told_field (λ e. 1 ≤ e) refusal_named

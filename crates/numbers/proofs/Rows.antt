@@ -10,7 +10,8 @@ use lib.ListN.{length, take, drop, set, get_or, replicate, length-replicate, len
 use lib.Seq.{take-suc-set, drop-set-lt, drop-drop, length-take-le}
 use Rattle.numbers.specs.Number.{Reading, Read, Refused}
 use Rattle.numbers.specs.Row.{Rows, ReadRow, RefusedAt, onto, and_then, fields, padded_to, Each}
-use Rattle.numbers.proofs.Refusals.{Named}
+use Rattle.numbers.specs.Filled.{filled}
+use Rattle.numbers.proofs.Refusals.{Told, Named}
 
 -- ---- one turn of a reader
 onto_onto : (xs ys : List ℕ) (r : Rows) → onto xs (onto ys r) ≡ onto (xs ++ ys) r
@@ -29,6 +30,12 @@ unfolding fields
 fields_step field n k at h =
     let e : n - k ≡ suc (n - (k + 1)) = omega arith in
     rw e
+
+-- a field that was read stands before the fields that follow it
+pub field_before : (field : ℕ → ℕ → Reading) (left k at v next : ℕ) → field k at ≡ Read v next
+    → fields field (suc left) k at ≡ onto (v ∷ []) (fields field left (k + 1) next)
+unfolding fields and_then
+field_before field left k at v next e = rw e
 
 fields_end : (field : ℕ → ℕ → Reading) (n k at : ℕ) → n ≤ k → fields field (n - k) k at ≡ ReadRow [] at
 unfolding fields
@@ -53,10 +60,12 @@ turn_start field start n size = record {
 
 module _ (field : ℕ → ℕ → Reading) (start n size : ℕ) (row : List ℕ) (k at : ℕ) (most : n ≤ size) (t : Turn field start n size row k at) where
   pub turn_more : (v next : ℕ) → k < n → field k at ≡ Read v next → Turn field start n size (set row k v) (k + 1) next
-  unfolding and_then
   turn_more v next h e =
       let inside : k < length row = omega (arith, t.long) in
-      let f : fields field (n - k) k at ≡ onto (v ∷ []) (fields field (n - (k + 1)) (k + 1) next) = fields_step field n k at h ∙ rw e in
+      let left : n - k ≡ suc (n - (k + 1)) = omega arith in
+      let f : fields field (n - k) k at ≡ onto (v ∷ []) (fields field (n - (k + 1)) (k + 1) next) =
+      rw left (field_before field (n - (k + 1)) k at v next e)
+      in
       let z : size - k ≡ suc (size - (k + 1)) = omega arith in
       record {
         whole = t.whole ∙ rw (f, onto_onto, add-one k, take-suc-set row k v inside);
@@ -81,6 +90,20 @@ module _ (field : ℕ → ℕ → Reading) (start n size : ℕ) (row : List ℕ)
   turn_row h =
       let len : length (take k row) ≡ k = length-take-le k row (omega (arith, t.long, t.up_to)) in
       (turn_end h, rw (len, ← t.rest, take-append-drop))
+
+-- ---- what the reader answers, back to what the fields say
+pub filled_read : (size : ℕ) (x : Rows) (numbers : List ℕ) (used : ℕ) → ReadRow numbers used ≡ filled size x
+    → (row : List ℕ) × (x ≡ ReadRow row used) × (numbers ≡ padded_to size row)
+unfolding filled
+filled_read size (ReadRow row n) numbers used e =
+    let u : n ≡ used = cc in
+    (row, ap (ReadRow row) u, cc)
+filled_read size (RefusedAt x at) numbers used e = absurd (let z : ◌≡◌ {A = ℕ} 0 1 = cc in omega arith)
+
+pub filled_refused : (size : ℕ) (x : Rows) (e at : ℕ) → RefusedAt e at ≡ filled size x → x ≡ RefusedAt e at
+unfolding filled
+filled_refused size (ReadRow row n) e at h = absurd (let z : ◌≡◌ {A = ℕ} 0 1 = cc in omega arith)
+filled_refused size (RefusedAt x p) e at h = sym h
 
 -- ---- a row that was read, field by field
 onto_back : (v : ℕ) (r : Rows) (row : List ℕ) (next : ℕ) → onto (v ∷ []) r ≡ ReadRow row next
@@ -145,23 +168,30 @@ pub each_padded : (P : ℕ → ℕ → Type 0) (size : ℕ) (row : List ℕ) →
 each_padded P size row h k inside =
     rw (get_or-append row (replicate (size - length row) 0) 0 k inside) (rw zero-add at (h k inside))
 
--- ---- a refusal's number is never 0
+-- ---- a refusal's number has P, and is never 0
+abbrev pub ToldRow : (P : ℕ → Type 0) → Rows → Type 0
+ToldRow P (ReadRow row next) = 0 ≤ next
+ToldRow P (RefusedAt e at) = P e
+
 abbrev pub NamedRow : Rows → Type 0
-NamedRow (ReadRow row next) = 0 ≤ next
-NamedRow (RefusedAt e at) = 1 ≤ e
+NamedRow = ToldRow (λ e. 1 ≤ e)
 
-named_onto : (xs : List ℕ) (r : Rows) → NamedRow r → NamedRow (onto xs r)
-unfolding onto
-named_onto xs (ReadRow row next) h = h
-named_onto xs (RefusedAt e at) h = h
+module _ (P : ℕ → Type 0) where
+  told_onto : (xs : List ℕ) (r : Rows) → ToldRow P r → ToldRow P (onto xs r)
+  unfolding onto
+  told_onto xs (ReadRow row next) h = h
+  told_onto xs (RefusedAt e at) h = h
 
-named_then : (at : ℕ) (x : Reading) (rest : ℕ → Rows) → Named x → ((n : ℕ) → NamedRow (rest n)) → NamedRow (and_then at x rest)
-unfolding and_then
-named_then at (Read v n) rest p q = named_onto (v ∷ []) (rest n) (q n)
-named_then at (Refused e) rest p q = p
+  told_then : (at : ℕ) (x : Reading) (rest : ℕ → Rows) → Told P x → ((n : ℕ) → ToldRow P (rest n)) → ToldRow P (and_then at x rest)
+  unfolding and_then
+  told_then at (Read v n) rest p q = told_onto (v ∷ []) (rest n) (q n)
+  told_then at (Refused e) rest p q = p
+
+  pub told_fields : (field : ℕ → ℕ → Reading) → ((k at : ℕ) → Told P (field k at)) → (left k at : ℕ) → ToldRow P (fields field left k at)
+  unfolding fields
+  told_fields field told zero k at = omega arith
+  told_fields field told (suc left) k at =
+      told_then at (field k at) (fields field left (k + 1)) (told k at) (λ n. told_fields field told left (k + 1) n)
 
 pub named_fields : (field : ℕ → ℕ → Reading) → ((k at : ℕ) → Named (field k at)) → (left k at : ℕ) → NamedRow (fields field left k at)
-unfolding fields
-named_fields field named zero k at = omega arith
-named_fields field named (suc left) k at =
-    named_then at (field k at) (fields field left (k + 1)) (named k at) (λ n. named_fields field named left (k + 1) n)
+named_fields = told_fields (λ e. 1 ≤ e)

@@ -1,13 +1,13 @@
 -- Laws of the writers: the bytes w go into d one by one, and one more of them is stored; a part that is lent comes back.
 use mathlib.Core.Path.{◌≡◌, refl, sym, ap, ◌∙◌}
 use Prim.Native.Nat.{ℕ, zero, suc, ◌+◌, ◌-◌, ◌/◌, ◌≤◌, ◌<◌}
-use mathlib.Core.List.{List, [], ◌∷◌, ◌++◌, append_assoc, append-nil}
+use mathlib.Core.List.{List, [], ◌∷◌, ◌++◌, append_assoc}
 use native.Mathlib.Numerals.{add-one, sub-one}
 use native.Mathlib.Omega.{arith}
 use borrow.Author.Tests.{le-ltb, lt-ltb}
 use lib.ListN.{drop, take, set, length, get_or, length-drop}
-use lib.Seq.{drop-cons, take-suc, set_at, length-take-le, drop-drop, drop-length, take_all}
-use borrow.Rule.Slice.PartMut.{mid_of, post_of, put_mid, Post-is}
+use lib.Seq.{drop-cons, take-suc, set_at, length-take-le, drop-drop}
+use borrow.Rule.Slice.PartMut.{put_mid}
 use Rattle.numbers.specs.Number.{low_group, bytes_from}
 use Rattle.numbers.proofs.Turns.{top}
 use Rattle.numbers.specs.Writing.{write_into}
@@ -18,7 +18,7 @@ abbrev pub stored_to : List ℕ → List ℕ → ℕ → List ℕ
 stored_to w d i = take i w ++ drop i d
 
 module _ (w : List ℕ) (i y : ℕ) (rest : List ℕ) (next : drop i w ≡ y ∷ rest) where
-  pub store_inside : i < length w
+  store_inside : i < length w
   store_inside = omega (arith, simp length-drop at (ap length next))
 
   pub store_rest : drop (i + 1) w ≡ rest
@@ -36,9 +36,6 @@ module _ (w : List ℕ) (i y : ℕ) (rest : List ℕ) (next : drop i w ≡ y ∷
   pub store_last : rest ≡ [] → length w ≡ i + 1
   store_last e = omega (arith, store_inside, simp length-drop at (ap length (store_rest ∙ e)))
 
-  pub store_whole : rest ≡ [] → (d : List ℕ) → stored_to w d (i + 1) ≡ w ++ drop (length w) d
-  store_whole e d = rw (← store_last e, take_all (length w) w (omega arith))
-
 -- the bytes of x, where it has more groups, and where it has not
 pub bytes_more : (k x : ℕ) → 128 ≤ x → x < top k → bytes_from k x ≡ low_group x ∷ bytes_from (k - 1) (x / 128)
 unfolding bytes_from top
@@ -55,10 +52,24 @@ unfolding top
 top_down zero x h l = absurd (omega arith)
 top_down (suc k) x h l = (omega arith, rw sub-one (omega arith))
 
--- `&mut d[at..]` is lent to a writer of w, which leaves `last` there, and comes back
-pub lent_back : (d w last : List ℕ) (at : ℕ) → at + length w ≤ length d → last ≡ w ++ drop (length w) (mid_of at (length d - at) d)
-    → put_mid at (length d - at) d last ≡ write_into d at w
-lent_back d w last at h e =
-    let m : mid_of at (length d - at) d ≡ drop at d = take_all (length d - at) (drop at d) (rw length-drop (omega arith)) in
-    let p : post_of at (length d - at) d ≡ [] = Post-is at (length d) d (omega arith) ∙ drop-length d in
-    rw (e, p, m, drop-drop (length w) at d, append-nil, ← append_assoc) (sym (written d at w h).1)
+-- i bytes of the number's w are stored in what was d, and those that are left are the bytes of x
+abbrev pub Stored : (w d out : List ℕ) (i x : ℕ) → Type 0
+Stored w d out i x = (out ≡ stored_to w d i) × (i < length w → (drop i w ≡ bytes_from (4 - i) x) × (x < top (4 - i)))
+
+module _ (w d out : List ℕ) (i x : ℕ) (inside : i < length w) (room : length w ≤ length d) (s : Stored w d out i x) where
+  pub stored_group : 128 ≤ x → Stored w d (set out i (low_group x)) (i + 1) (x / 128)
+  stored_group h =
+      let e = (s.1 inside).0 ∙ bytes_more (4 - i) x h (s.1 inside).1 in
+      let down : 4 - i - 1 ≡ 4 - (i + 1) = omega arith in (
+        ap (λ (o : List ℕ). set o i (low_group x)) s.0 ∙ store_more w i _ _ e d room,
+        λ h2. (rw (← down) (store_rest w i _ _ e), rw (← down) (top_down (4 - i) x h (s.1 inside).1).1),
+      )
+
+  pub stored_end : x < 128 → Stored w d (set out i x) (i + 1) (x / 128)
+  stored_end h =
+      let e = (s.1 inside).0 ∙ bytes_last (4 - i) x h in
+      (ap (λ (o : List ℕ). set o i x) s.0 ∙ store_more w i _ _ e d room, λ h2. absurd (omega (arith, store_last w i _ _ e refl)))
+
+-- `&mut d[at..at + length w]` is lent to a writer, which leaves w there, and comes back
+pub lent_back : (d w : List ℕ) (at n : ℕ) → n ≡ length w → at + n ≤ length d → put_mid at n d w ≡ write_into d at w
+lent_back d w at n e h = rw (e, drop-drop (length w) at d, ← append_assoc) (sym (written d at w (omega (arith, h, e))).1)

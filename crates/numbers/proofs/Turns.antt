@@ -1,7 +1,7 @@
 -- Laws of the reader's loop: what the byte at i says of the number that starts there, and what the weights leave room for.
 use mathlib.Core.Path.{◌≡◌, refl, sym, ap, ◌∙◌}
 use Prim.Native.Nat.{ℕ, zero, suc, ◌+◌, ◌-◌, ◌*◌, ◌^◌, ◌≤◌, ◌<◌}
-use mathlib.Core.List.{List}
+use mathlib.Core.List.{List, ◌∷◌}
 use native.Mathlib.Nat.{zero-add, one-mul, mul-add, add_assoc, mul_assoc, mul-le-mul_left, mul-one}
 use native.Mathlib.Numerals.{add-one, sub-one}
 use native.Mathlib.Omega.{arith}
@@ -29,25 +29,35 @@ pub read_end : (k least : ℕ) (s : List ℕ) (i : ℕ) → length s ≤ i → g
 unfolding groups
 read_end k least s i h = rw (drop_of_length-le s h)
 
-module _ (least : ℕ) (s : List ℕ) (i : ℕ) (inside : i < length s) where
-  pub read_wide : (k : ℕ) → k ≡ 0 → 15 < get_or s i 0 → groups k least (drop i s) ≡ Refused 2
-  unfolding groups
-  read_wide k z h = rw (z, drop-cons s i 0 inside, lt-ltb _ _ h)
+-- b is the byte at i
+abbrev pub ByteAt : List ℕ → ℕ → ℕ → Type 0
+ByteAt s i b = (i < length s) × (b ≡ get_or s i 0)
 
-  pub read_fifth : (k : ℕ) → k ≡ 0 → get_or s i 0 ≤ 15 → groups k least (drop i s) ≡ last least (get_or s i 0)
-  unfolding groups
-  read_fifth k z h = rw (z, drop-cons s i 0 inside, le-ltb _ _ h)
+-- what `get` says of it, and its conversion
+pub byte_at : (s : List ℕ) (i byte b : ℕ) → (i < length s) × ((d : ℕ) → byte ≡ get_or s i d) → b ≡ byte → ByteAt s i b
+byte_at s i byte b h e = (h.0, e ∙ h.1 0)
 
-  pub read_last : (k : ℕ) → (k ≡ 0 → ⊥) → get_or s i 0 < 128 → groups k least (drop i s) ≡ last least (get_or s i 0)
+module _ (least : ℕ) (s : List ℕ) (i b : ℕ) (here : ByteAt s i b) where
+  from_here : drop i s ≡ b ∷ drop (i + 1) s
+  from_here = rw (here.1, drop-cons s i 0 here.0, add-one i)
+
+  pub read_wide : (k : ℕ) → k ≡ 0 → 15 < b → groups k least (drop i s) ≡ Refused 2
+  unfolding groups
+  read_wide k z h = rw (z, from_here, lt-ltb _ _ h)
+
+  pub read_fifth : (k : ℕ) → k ≡ 0 → b ≤ 15 → groups k least (drop i s) ≡ last least b
+  unfolding groups
+  read_fifth k z h = rw (z, from_here, le-ltb _ _ h)
+
+  pub read_last : (k : ℕ) → (k ≡ 0 → ⊥) → b < 128 → groups k least (drop i s) ≡ last least b
   unfolding groups
   read_last zero nz h = absurd (nz refl)
-  read_last (suc k) nz h = rw (drop-cons s i 0 inside, lt-ltb _ _ h)
+  read_last (suc k) nz h = rw (from_here, lt-ltb _ _ h)
 
-  pub read_more : (k : ℕ) → (k ≡ 0 → ⊥) → 128 ≤ get_or s i 0
-      → groups k least (drop i s) ≡ more (get_or s i 0 - 128) (groups (k - 1) 1 (drop (i + 1) s))
+  pub read_more : (k : ℕ) → (k ≡ 0 → ⊥) → 128 ≤ b → groups k least (drop i s) ≡ more (b - 128) (groups (k - 1) 1 (drop (i + 1) s))
   unfolding groups
   read_more zero nz h = absurd (nz refl)
-  read_more (suc k) nz h = rw (drop-cons s i 0 inside, le-ltb _ _ h, add-one i, sub-one)
+  read_more (suc k) nz h = rw (from_here, le-ltb _ _ h, sub-one)
 
 -- what the weights leave room for
 pub top_more : (k : ℕ) → (k ≡ 0 → ⊥) → top k ≡ 128 * top (k - 1)

@@ -1,12 +1,13 @@
 -- Document 01, "Sheets in seven-bit numbers", refusal 4: "a field is outside its range". A field is a number that has a range; the range
 -- names its refusal, 14 for a period's NS.
 use Rattle.std.specs.Prelude.{ℕ, ◌≤◌, List, ltb, if◌then◌else◌}
+use Rattle.refusals.specs.Numbers.{refusal_number}
 use Rattle.numbers.specs.declared.Range.{Range}
 use Rattle.numbers.specs.Number.{Reading, Read, Refused, read_number}
 
 -- a number that was read, held to its range
 unfoldable pub in_range : Range → Reading → Reading
-in_range r (Read v next) = if ltb v r.low then Refused r.refusal else if ltb r.high v then Refused r.refusal else Read v next
+in_range r (Read v next) = if ltb v r.low then Refused (refusal_number r.refusal) else if ltb r.high v then Refused (refusal_number r.refusal) else Read v next
 in_range r (Refused e) = Refused e
 
 -- the field at a place: refusals 1, 2, 3 of its number, then the range's own

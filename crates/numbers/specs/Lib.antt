@@ -2,3 +2,4 @@ pub mod Number
 pub mod Field
 pub mod Row
 pub mod Writing
+pub mod Filled

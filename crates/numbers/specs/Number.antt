@@ -1,18 +1,20 @@
 -- Document 01, "Sheets in seven-bit numbers": groups of seven bits, lowest group first, the top bit set on all groups but the last.
 -- At most five groups, value at most 2 ^ 32 - 1, shortest form only.
 use Rattle.std.specs.Prelude.{ℕ, zero, suc, ◌+◌, ◌-◌, ◌*◌, ◌/◌, ◌%◌, ◌<◌, List, [], ◌∷◌, drop, get_or, ltb, if◌then◌else◌}
+use Rattle.std.specs.Prelude.{Result, Ok, Err}
+use Rattle.refusals.specs.declared.Refusal.{Refusal}
+use Rattle.refusals.specs.Numbers.{refusal_number}
 use Rattle.numbers.specs.declared.Number.{Number}
-use Rattle.numbers.specs.declared.Number.TheVariants.{Value, Refused as NotRead}
 
 -- what reading a number gives: its value and the place after it, or the refusal's number of the paper's table
 pub data Reading : Type 0 where
   Read : ℕ → ℕ → Reading
   Refused : ℕ → Reading
 
--- the same for each case of the enum that `read` answers
-abbrev pub reading : Number → Reading
-reading (Value v next) = Read v next
-reading (NotRead e) = Refused e
+-- the same for what `read` answers
+abbrev pub reading : Result Number Refusal → Reading
+reading (Ok n) = Read n.value n.next
+reading (Err e) = Refused (refusal_number e)
 
 -- the last group b. Refusal 3: "a number of two or more groups ends in a zero group"; least is 1 from the second group on
 unfoldable pub last : ℕ → ℕ → Reading

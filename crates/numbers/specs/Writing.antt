@@ -1,18 +1,19 @@
 -- Document 01, "Sheets in seven-bit numbers": "The writer puts a sheet into a lent buffer from a place that the caller names; bytes outside
 -- the written part keep their contents." Said once, of any bytes: a number's, a row's, a sheet's.
 use Rattle.std.specs.Prelude.{ℕ, ◌+◌, Bool, List, ◌++◌, length, take, drop, leb, if◌then◌else◌}
-use Rattle.numbers.specs.declared.Written.{Written}
-use Rattle.numbers.specs.declared.Written.TheVariants.{Count, Refused as NotWritten}
+use Rattle.std.specs.Prelude.{Result, Ok, Err}
+use Rattle.refusals.specs.declared.Refusal.{Refusal}
+use Rattle.refusals.specs.Numbers.{refusal_number}
 
 -- what writing gives: how many bytes were written, or the refusal's number
 pub data Writing : Type 0 where
   Wrote : ℕ → Writing
   Refused : ℕ → Writing
 
--- the same for each case of the enum that a writer answers
-abbrev pub writing : Written → Writing
-writing (Count n) = Wrote n
-writing (NotWritten e) = Refused e
+-- the same for what a writer answers
+abbrev pub writing : Result ℕ Refusal → Writing
+writing (Ok n) = Wrote n
+writing (Err e) = Refused (refusal_number e)
 
 -- the buffer from the place on is at least as long as the bytes; false too where the place is past its end
 unfoldable pub room_at : List ℕ → ℕ → List ℕ → Bool

@@ -1,50 +1,48 @@
 // Seven-bit numbers: groups of seven bits, lowest group first, the top bit set on all groups but the last.
 #![tactic(auto)]
 
-ghost use Rattle.std.specs.Prelude.{◌≡◌, ◌+◌, ◌*◌, ◌^◌, ◌<◌, ◌≤◌, ◌++◌};
+ghost use Rattle.std.specs.Prelude.{◌≡◌, ◌+◌, ◌*◌, ◌^◌, ◌<◌, ◌≤◌, MatchResult};
 ghost use lib.ListN.{drop};
 ghost use Rattle.numbers.specs.Number.{reading, read_number, last, number_bytes, above};
 ghost use Rattle.numbers.specs.Field.{read_field};
 ghost use Rattle.numbers.specs.Writing.{writing, write_answer, write_into};
 
-// What reading a number gives: its value and the place after it, or the refusal's number.
-#[derive(Clone, Copy)]
-pub enum Number {
-    Value { value: u32, next: usize },
-    Refused(u8),
-}
+pub mod reader;
 
-// What writing gives: how many bytes were written, or the refusal's number.
-#[derive(Clone, Copy)]
-pub enum Written {
-    Count(usize),
-    Refused(u8),
+use refusals::Refusal;
+
+// A number that was read: its value and the place after it.
+#[derive(Clone, Copy, Debug, PartialEq, Eq)]
+pub struct Number {
+    pub value: u32,
+    pub next: usize,
 }
 
 // The values that a field may have, and the refusal of any other.
-#[derive(Clone, Copy)]
+#[derive(Clone, Copy, Debug, PartialEq, Eq)]
 pub struct Range {
     pub low: u32,
     pub high: u32,
-    pub refusal: u8,
+    pub refusal: Refusal,
 }
 
-// The number with its last group b, of weight scale above the groups so far; refusal 3 where b is below the least that may end it.
-fn finished(value: u32, scale: u32, b: u32, least: u32, at: usize) -> Number
+// The number with its last group b, of weight scale above the groups so far; not the shortest form where b is below the least that may end it.
+#[tactic(auto, unfolding(crate::specs::Number::above, crate::specs::Number::last))]
+fn finished(value: u32, scale: u32, b: u32, least: u32, at: usize) -> Result<Number, Refusal>
     requires { (value + scale * b < 2 ^ 32) × (at + 1 < 2 ^ 64) }
     ensures { reading result ≡ above value scale at (last least b) }
 {
     if b < least {
-        return Number::Refused(3);
+        return Err(Refusal::NotShortest);
     }
-    Number::Value {
+    Ok(Number {
         value: value + scale * b,
         next: at + 1,
-    }
+    })
 }
 
 // Reads the number that starts at a place of the bytes.
-pub fn read(bytes: &[u8], at: usize) -> Number
+pub fn read(bytes: &[u8], at: usize) -> Result<Number, Refusal>
     ensures { reading result ≡ read_number bytes.now at }
 {
     let mut i = at;
@@ -52,14 +50,15 @@ pub fn read(bytes: &[u8], at: usize) -> Number
     let mut scale: u32 = 1;
     let mut least: u32 = 0;
     let mut left: u32 = 4;
+    // Stays: no plainer. The rules name a loop that yields the number or its refusal by break, which no `for` does.
     let got = loop {
-        if bytes.len() <= i {
-            break Number::Refused(1);
-        }
-        let b = bytes[i] as u32;
+        let Some(byte) = bytes.get(i) else {
+            break Err(Refusal::Cut);
+        };
+        let b = u32::from(*byte);
         if left == 0 {
             if 15 < b {
-                break Number::Refused(2);
+                break Err(Refusal::TooWide);
             }
             break finished(value, scale, b, least, i);
         }
@@ -76,25 +75,19 @@ pub fn read(bytes: &[u8], at: usize) -> Number
 }
 
 // Reads a field: the number that starts at a place, refused where it is outside its range.
-pub fn read_field(bytes: &[u8], at: usize, range: Range) -> Number
+#[tactic(auto, unfolding(crate::specs::Field::read_field, crate::specs::Field::in_range))]
+pub fn read_field(bytes: &[u8], at: usize, range: Range) -> Result<Number, Refusal>
     ensures { reading result ≡ read_field range bytes.now at }
 {
-    let got = read(bytes, at);
-    match got {
-        Number::Value { value, next } => {
-            if value < range.low {
-                return Number::Refused(range.refusal);
-            }
-            if range.high < value {
-                return Number::Refused(range.refusal);
-            }
-            Number::Value { value, next }
-        }
-        Number::Refused(e) => Number::Refused(e),
+    let number = read(bytes, at)?;
+    if number.value < range.low || range.high < number.value {
+        return Err(range.refusal);
     }
+    Ok(number)
 }
 
 // How many bytes a number takes.
+#[tactic(auto, unfolding(crate::specs::Number::number_bytes, crate::specs::Number::bytes_from))]
 pub fn length(value: u32) -> usize
     ensures { result ≡ lib.ListN.length (number_bytes value) }
 {
@@ -113,35 +106,41 @@ pub fn length(value: u32) -> usize
     5
 }
 
-// Writes a number at the start of out.
-fn put(out: &mut [u8], value: u32)
-    requires { lib.ListN.length (number_bytes value) ≤ lib.ListN.length out.old }
-    ensures { out.new ≡ number_bytes value ++ drop (lib.ListN.length (number_bytes value)) out.old }
+// Fills out, which is as long as the number's bytes, with them.
+pub fn put(out: &mut [u8], value: u32)
+    requires { lib.ListN.length out.old ≡ lib.ListN.length (number_bytes value) }
+    ensures { out.new ≡ number_bytes value }
 {
-    let mut x = value;
-    let mut i: usize = 0;
-    let mut left: u32 = 4;
-    while 128 <= x {
-        out[i] = (128 + x % 128) as u8;
-        x = x / 128;
-        i += 1;
-        left -= 1;
+    let mut rest = value;
+    for byte in out.iter_mut() {
+        *byte = if 128 <= rest {
+            (128 + rest % 128) as u8
+        } else {
+            rest as u8
+        };
+        rest = rest / 128;
     }
-    out[i] = x as u8;
 }
 
-// Writes a number into a lent buffer from a place: refusal 7, and the buffer as it was, where the rest is too short.
-pub fn write(buffer: &mut [u8], at: usize, value: u32) -> Written
+// Whether so many bytes fit into a buffer from a place on.
+pub fn room(buffer: &[u8], at: usize, count: usize) -> Result<(), Refusal>
+    ensures { MatchResult result (λ _. at + count ≤ lib.ListN.length buffer.now) (λ e. (e ≡ Refusal.NoRoom) × (lib.ListN.length buffer.now < at + count)) }
+{
+    if at <= buffer.len() && count <= buffer.len() - at {
+        Ok(())
+    } else {
+        Err(Refusal::NoRoom)
+    }
+}
+
+// Writes a number into a lent buffer from a place, and says how many bytes; the buffer stays as it was where the rest is too short.
+#[tactic(auto, unfolding(crate::specs::Writing::room_at, crate::specs::Writing::write_answer, crate::specs::Writing::write_into))]
+pub fn write(buffer: &mut [u8], at: usize, value: u32) -> Result<usize, Refusal>
     ensures { (writing result ≡ write_answer buffer.old at (number_bytes value))
         × (buffer.new ≡ write_into buffer.old at (number_bytes value)) }
 {
     let n = length(value);
-    if buffer.len() < at {
-        return Written::Refused(7);
-    }
-    if buffer.len() - at < n {
-        return Written::Refused(7);
-    }
-    put(&mut buffer[at..], value);
-    Written::Count(n)
+    room(buffer, at, n)?;
+    put(&mut buffer[at..at + n], value);
+    Ok(n)
 }

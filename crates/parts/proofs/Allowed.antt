@@ -1,7 +1,6 @@
 -- Laws of the tests of a row.
-use Prim.Native.Nat.{ℕ, zero, suc, ◌+◌, ◌<◌}
+use Prim.Native.Nat.{ℕ, zero, suc, ◌<◌}
 use native.Mathlib.Nat.{eq-or-lt_of_le}
-use native.Mathlib.Numerals.{add-one}
 use native.Mathlib.Omega.{arith}
 use borrow.Author.Tests.{leb-true, le-leb}
 use mathlib.Core.Bool.{Bool, true, false, ◌&&◌, false≢true}
@@ -20,10 +19,6 @@ use Rattle.parts.specs.Allowed.{within, all_below, allowed}
 pub both : (a b : Bool) → (a && b) ≡ true → (a ≡ true) × (b ≡ true)
 both true b e = (refl, e)
 both false b e = absurd (false≢true e)
-
-pub all_more : (p : ℕ → Bool) (k : ℕ) (ok b : Bool) → ok ≡ all_below p k → b ≡ p k → (ok && b) ≡ all_below p (k + 1)
-unfolding all_below
-all_more p k ok b e h = rw (e, h, add-one)
 
 pub all_at : (p : ℕ → Bool) (k i : ℕ) → all_below p k ≡ true → i < k → p i ≡ true
 unfolding all_below

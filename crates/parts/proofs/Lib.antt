@@ -1,3 +1,4 @@
 pub mod Allowed
+pub mod Each
 pub mod Groups
 pub mod Good

@@ -1,3 +1,2 @@
-pub mod Plans
 pub mod Refusals
 pub mod Worked

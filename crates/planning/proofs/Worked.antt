@@ -7,14 +7,17 @@ use lib.ListN.{replicate}
 use Rattle.numbers.specs.Number.{last, more, groups, placed, read_number}
 use Rattle.numbers.specs.Field.{in_range, read_field}
 use Rattle.numbers.specs.Row.{fields, and_then, onto}
-use Rattle.demands.specs.Listing.{first}
+use Rattle.numbers.specs.Filled.{filled}
+use Rattle.planning_sheet.specs.Listing.{first}
+use Rattle.letters.specs.declared.Level.TheVariants.{F}
+use Rattle.letters.specs.Level.{graded}
 use Rattle.sections.specs.Table.{tabled, row_of, row75, row70, row65, row60, row55}
 use Rattle.sections.specs.Section.{queued, no_answer, work_of, judged_of, answer_of, capacity_of, carried_of, ratio_of, curve_of, under_of, over_of, travel_of, speed_of, density_of}
 use Rattle.sections.proofs.Worked.{bits}
 use Rattle.planning_sheet.specs.Sheet.{section_field, allowed_at, held_to, field_at, sections_of, sections_from, sheet_from, read_sheet, section_of}
 use Rattle.demands.specs.Demand.{demand_of, all_within, demand_at, demands_of}
 use Rattle.demands.specs.Carryover.{carried_at, carryover_of}
-use Rattle.solving.specs.Facility.{F, answer_at, answers_of, added_of, totals_of, facility_density, letter_of}
+use Rattle.solving.specs.Facility.{answer_at, answers_of, added_of, totals_of, facility_density, letter_of}
 use Rattle.planning.specs.Plan.{refused_plan, accepted_plan, plan_from, plan_of}
 
 -- a sheet of two sections, both queued and with a carryover: the new one replaces the old
@@ -34,19 +37,19 @@ whole_plan : plan_of sheet (3935 ∷ 2587 ∷ [])
       letter = F;
       carryover = 8586 ∷ 10325 ∷ [];
     }
-unfolding of_bits of_int add sub mul div lt le read_number groups last more placed read_field in_range first tabled row_of row75 row70 row65 row60 row55 capacity_of carried_of ratio_of curve_of under_of over_of travel_of speed_of density_of work_of judged_of answer_of section_field allowed_at held_to field_at fields and_then onto sections_of sections_from sheet_from read_sheet section_of demand_of all_within demand_at demands_of answer_at answers_of carried_at carryover_of added_of totals_of facility_density letter_of accepted_plan plan_from plan_of
+unfolding of_bits of_int add sub mul div lt le read_number groups last more placed read_field in_range first tabled row_of row75 row70 row65 row60 row55 capacity_of carried_of ratio_of curve_of under_of over_of travel_of speed_of density_of work_of judged_of answer_of section_field allowed_at held_to field_at fields and_then onto sections_of sections_from filled sheet_from read_sheet section_of demand_of all_within demand_at demands_of answer_at answers_of carried_at carryover_of added_of totals_of facility_density graded letter_of accepted_plan plan_from plan_of
 whole_plan = refl
 
 -- an FFS that is none of the five, at its own offset
 no_row : plan_of (0x01 ∷ 0xa0 ∷ 0x29 ∷ 0x03 ∷ 0x47 ∷ 0xe8 ∷ 0x07 ∷ 0x01 ∷ 0x01 ∷ []) (0 ∷ []) ≡ refused_plan 4 4 (0 ∷ [])
-unfolding read_number groups last more placed read_field in_range tabled section_field allowed_at held_to field_at fields and_then onto sections_of sections_from sheet_from read_sheet plan_from plan_of
+unfolding read_number groups last more placed read_field in_range first tabled section_field allowed_at held_to field_at fields and_then onto sections_of sections_from filled sheet_from read_sheet plan_from plan_of
 no_row = refl
 
 -- a slice of another length; a demand above 1,000,000
 other_length : plan_of sheet (0 ∷ []) ≡ refused_plan 8 0 (0 ∷ [])
-unfolding read_number groups last more placed read_field in_range tabled section_field allowed_at held_to field_at fields and_then onto sections_of sections_from sheet_from read_sheet plan_from plan_of
+unfolding read_number groups last more placed read_field in_range first tabled section_field allowed_at held_to field_at fields and_then onto sections_of sections_from filled sheet_from read_sheet plan_from plan_of
 other_length = refl
 
 too_many : plan_of sheet (4294967295 ∷ 4294967295 ∷ []) ≡ refused_plan 15 0 (4294967295 ∷ 4294967295 ∷ [])
-unfolding read_number groups last more placed read_field in_range tabled section_field allowed_at held_to field_at fields and_then onto sections_of sections_from sheet_from read_sheet section_of demand_of all_within plan_from plan_of
+unfolding read_number groups last more placed read_field in_range first tabled section_field allowed_at held_to field_at fields and_then onto sections_of sections_from filled sheet_from read_sheet section_of demand_of all_within plan_from plan_of
 too_many = refl

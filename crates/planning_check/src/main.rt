@@ -3,284 +3,213 @@
 // digits of its bits, and a line for each section. A carryover has at most 65 numbers; a record that is none leaves none.
 #![tactic(auto)]
 
-ghost use Rattle.std.specs.Prelude.{◌≤◌, ◌<◌, length};
+ghost use Rattle.std.specs.Prelude.{◌≤◌, length};
 
-use records::{Record, say, say_number};
-use sections::Answer;
-use solving::{Done, Service};
+use input::{CHUNK_ROOM, LINE_ROOM, Lines, STUDY_ROOM};
+use planning::Planned;
+use refusals::Refused;
+use sections::answer::Answer;
 use std::io::Write;
-use text::Numeral;
+use std::{fmt, io};
 
-// How many numbers a list gave; one that is no list of numbers, or has too many, is not fine.
+// An f64 that prints as its bits.
 #[derive(Clone, Copy)]
-struct Listed {
-    fine: bool,
+struct Bits(f64);
+
+impl fmt::Display for Bits {
+    fn fmt<W: fmt::Write>(&self, f: &mut fmt::Formatter<W>) -> fmt::Result {
+        if self.0.is_nan() {
+            return write!(f, "nan");
+        }
+        let bits = self.0.to_bits();
+        write!(f, "{bits:016x}")
+    }
+}
+
+// An answer that prints as its case and its numbers.
+#[derive(Clone, Copy)]
+struct Told(Answer);
+
+impl fmt::Display for Told {
+    fn fmt<W: fmt::Write>(&self, f: &mut fmt::Formatter<W>) -> fmt::Result {
+        match self.0 {
+            Answer::Free { speed, density } => {
+                write!(f, "free {} {}", Bits(speed), Bits(density))
+            }
+            Answer::Slowed {
+                under,
+                speed,
+                density,
+            } => write!(
+                f,
+                "slowed {} {} {}",
+                Bits(under),
+                Bits(speed),
+                Bits(density)
+            ),
+            Answer::Queued {
+                under,
+                over,
+                speed,
+                density,
+            } => write!(
+                f,
+                "queued {} {} {} {}",
+                Bits(under),
+                Bits(over),
+                Bits(speed),
+                Bits(density)
+            ),
+        }
+    }
+}
+
+// A carryover.
+// Stays: fixed memory. With no heap, a list is an array with its count beside it.
+#[derive(Clone, Copy)]
+struct Carryover {
+    numbers: [u32; 65],
     count: usize,
+    ghost within: { count ≤ 65 },
 }
 
-// The place of the first comma from a place on, or the end.
-fn comma(list: &[u8], from: usize) -> usize
-    requires { from ≤ length list.now }
-    ensures behind { from ≤ result }
-    ensures within { result ≤ length list.now }
-{
-    for i in from..list.len() {
-        if list[i] == b',' {
-            return i;
+// Numbers with commas between them, or `-` for none.
+impl fmt::Display for Carryover {
+    fn fmt<W: fmt::Write>(&self, f: &mut fmt::Formatter<W>) -> fmt::Result {
+        if self.count == 0 {
+            return write!(f, "-");
         }
-    }
-    list.len()
-}
-
-// The numbers of a list, put at the start of out.
-fn unlist(list: &[u8], out: &mut [u32]) -> Listed
-    ensures { result.count ≤ length out.new }
-{
-    let mut i: usize = 0;
-    let mut n: usize = 0;
-    while n < out.len() {
-        let to = comma(list, i);
-        match text::number(&list[i..to]) {
-            Numeral::Value(value) => {
-                out[n] = value;
+        for (i, number) in self.numbers[..self.count].iter().enumerate() {
+            if 0 < i {
+                write!(f, ",")?;
             }
-            Numeral::Other => {
-                return Listed {
-                    fine: false,
-                    count: 0,
-                };
-            }
+            write!(f, "{number}")?;
         }
-        n += 1;
-        if list.len() <= to {
-            return Listed {
-                fine: true,
-                count: n,
-            };
-        }
-        i = to + 1;
-    }
-    Listed {
-        fine: false,
-        count: 0,
+        Ok(())
     }
 }
 
-// The bits of an f64.
-fn put_bits<W: Write>(output: &mut W, x: f64) {
-    if x.is_nan() {
-        say(output, b" nan");
-        return;
-    }
-    let bits = x.to_bits();
-    let _ = write!(output, " {bits:016x}");
-}
-
-fn put_answer<W: Write>(output: &mut W, a: Answer) {
-    match a {
-        Answer::Free { speed, density } => {
-            say(output, b" free");
-            put_bits(output, speed);
-            put_bits(output, density);
-        }
-        Answer::Slowed {
-            under,
-            speed,
-            density,
-        } => {
-            say(output, b" slowed");
-            put_bits(output, under);
-            put_bits(output, speed);
-            put_bits(output, density);
-        }
-        Answer::Queued {
-            under,
-            over,
-            speed,
-            density,
-        } => {
-            say(output, b" queued");
-            put_bits(output, under);
-            put_bits(output, over);
-            put_bits(output, speed);
-            put_bits(output, density);
-        }
-    }
-}
-
-// A line for each of the first n answers.
-fn put_answers<W: Write>(output: &mut W, answers: &[Done; 64], n: usize) {
-    for i in 0..n.min(64) {
-        say_number(output, b"  ", i as u64 + 1);
-        put_answer(output, answers[i].answer);
-        say(output, b"\n");
-    }
-}
-
-fn put_letter<W: Write>(output: &mut W, s: Service) {
-    match s {
-        Service::A => say(output, b"A"),
-        Service::B => say(output, b"B"),
-        Service::C => say(output, b"C"),
-        Service::D => say(output, b"D"),
-        Service::E => say(output, b"E"),
-        Service::F => say(output, b"F"),
-    }
-}
-
-// The numbers with commas between them, or `-` for none.
-fn put_list<W: Write>(output: &mut W, xs: &[u32]) {
-    if xs.len() == 0 {
-        say(output, b"-");
-        return;
-    }
-    for (i, x) in xs.iter().enumerate() {
-        if 0 < i {
-            say(output, b",");
-        }
-        let _ = write!(output, "{x}");
-    }
-}
-
-fn put_facility<W: Write>(output: &mut W, used: usize, density: f64, letter: Service) {
-    say_number(output, b"ok used ", used as u64);
-    say(output, b" density");
-    put_bits(output, density);
-    say(output, b" letter ");
-    put_letter(output, letter);
-}
-
-// What a sheet gives with a carryover, and the carryover after it.
-fn put_plan<W: Write>(output: &mut W, bytes: &[u8], carryover: &mut [u32]) {
-    let got = planning::plan(bytes, carryover);
-    if got.refusal != 0 {
-        records::say_refused(output, got.refusal, got.offset);
-        say(output, b"\n");
-        return;
-    }
-    put_facility(output, got.used, got.density, got.letter);
-    say(output, b" carry ");
-    put_list(output, carryover);
-    say(output, b"\n");
-    put_answers(output, &got.answers, carryover.len());
-}
-
-// The carryover of the one word that is left of a record, put at the start of the slice; `=` leaves it as the last sheet left it.
-fn take_carryover(rest: &[u8], slice: &mut [u32], count: usize) -> Listed
-    requires { count ≤ length slice.old }
-    ensures { result.count ≤ length slice.new }
-{
-    let list = records::only_word(rest);
-    let word = &rest[list.start..list.end];
-    if text::same(word, b"=") {
-        return Listed { fine: true, count };
-    }
-    if text::same(word, b"-") {
-        return Listed {
-            fine: true,
+impl Carryover {
+    // One of no number.
+    fn none() -> Self {
+        Carryover {
+            numbers: [0; 65],
             count: 0,
-        };
+        }
     }
-    unlist(word, slice)
+
+    // Puts one more number behind the others: none where there is no room.
+    fn push(&mut self, number: u32) -> Option<()> {
+        if self.count == 65 {
+            return None;
+        }
+        self.numbers[self.count] = number;
+        self.count += 1;
+        Some(())
+    }
+
+    // The carryover that a word says, where the sheet before left one: none of a word that says none.
+    fn of(word: &[u8], left: &Carryover) -> Option<Self> {
+        match word {
+            b"=" => Some(*left),
+            b"-" => Some(Carryover::none()),
+            _ => {
+                let mut carryover = Carryover::none();
+                for number in word.split(|b| *b == b',') {
+                    carryover.push(text::number(number)?)?;
+                }
+                Some(carryover)
+            }
+        }
+    }
+
+    // Works a sheet out with this carryover, and keeps the one that it leaves.
+    fn plan(&mut self, bytes: &[u8]) -> Result<Planned, Refused> {
+        let mut numbers = self.numbers;
+        let planned = planning::plan(bytes, &mut numbers[..self.count]);
+        self.numbers = numbers;
+        planned
+    }
+}
+
+// A record as it stands up to its mark, its sheet's word, and its carryover.
+#[derive(Clone, Copy)]
+struct Asked<'a> {
+    start: &'a [u8],
+    sheet: &'a [u8],
+    carryover: Carryover,
+}
+
+impl Asked<'_> {
+    // What a record asks, where the sheet before left a carryover: a name, bytes, `carry` and a carryover.
+    fn of<'a>(record: &'a [u8], left: &Carryover) -> Option<Asked<'a>> {
+        let (_, rest) = text::next_word(record)?;
+        let (sheet, rest) = text::next_word(rest)?;
+        let (mark, rest) = text::next_word(rest)?;
+        if !text::same(mark, b"carry") {
+            return None;
+        }
+        let carryover = Carryover::of(records::only_word(rest)?, left)?;
+        Some(Asked {
+            start: &record[..record.len() - rest.len()],
+            sheet,
+            carryover,
+        })
+    }
+}
+
+// What a sheet gives, the carryover that it leaves, and a line for each section.
+fn say_plan<W: Write>(output: &mut W, planned: &Planned, carryover: &Carryover) -> io::Result<()> {
+    let used = planned.used;
+    let density = Bits(planned.density);
+    let level = planned.level;
+    writeln!(
+        output,
+        "ok used {used} density {density} letter {level} carry {carryover}"
+    )?;
+    for (number, answer) in (1..=64).zip(planned.answers.iter().take(carryover.count)) {
+        let told = Told(*answer);
+        writeln!(output, "  {number} {told}")?;
+    }
+    Ok(())
 }
 
 // Plays a sheet with a carryover.
-fn play_sheet<W: Write>(output: &mut W, word: &[u8], carryover: &mut [u32]) {
-    let mut bytes = input::large_buffer();
-    let given = records::bytes_of(word, &mut bytes);
-    say(output, b" ");
-    put_list(output, carryover);
-    say(output, b" -> ");
-    if !given.fine {
-        say(output, b"not a sheet's bytes\n");
-        return;
+fn play_sheet<W: Write>(output: &mut W, sheet: &[u8], carryover: &mut Carryover) -> io::Result<()> {
+    let mut room = [0; STUDY_ROOM];
+    let Some(bytes) = records::bytes_of(sheet, &mut room) else {
+        return writeln!(output, "not a sheet's bytes");
+    };
+    match carryover.plan(bytes) {
+        Ok(planned) => say_plan(output, &planned, carryover),
+        Err(refused) => writeln!(output, "{refused}"),
     }
-    put_plan(output, &bytes[..given.count], carryover);
 }
 
-// Plays a sheet with the carryover that the rest of its record says. How many sections the carryover has after it.
-fn play_with<W: Write>(
-    output: &mut W,
-    word: &[u8],
-    rest: &[u8],
-    slice: &mut [u32],
-    count: usize,
-) -> usize
-    requires { count ≤ length slice.old }
-    ensures { result ≤ length slice.new }
-{
-    let given = take_carryover(rest, slice, count);
-    let k = given.count;
-    if !given.fine {
-        records::say_record(output, rest);
-        say(output, b"not a record\n");
-        return 0;
+// Plays a record with the carryover that the sheet before left.
+fn play<W: Write>(output: &mut W, record: &[u8], carryover: &mut Carryover) -> io::Result<()> {
+    match Asked::of(record, carryover) {
+        Some(asked) => {
+            *carryover = asked.carryover;
+            output.write_all(asked.start)?;
+            write!(output, " {carryover} -> ")?;
+            play_sheet(output, asked.sheet, carryover)
+        }
+        None => {
+            *carryover = Carryover::none();
+            records::say_record(output, record)?;
+            writeln!(output, "not a record")
+        }
     }
-    play_sheet(output, word, &mut slice[..k]);
-    k
-}
-
-// Plays a record: a name, bytes, `carry` and a carryover.
-fn play<W: Write>(output: &mut W, record: &[u8], slice: &mut [u32], count: usize) -> usize
-    requires { count ≤ length slice.old }
-    ensures { result ≤ length slice.new }
-{
-    let name = text::next_word(record, 0);
-    let hex = text::next_word(record, name.end);
-    let mark = text::next_word(record, hex.end);
-    let rest = &record[mark.end..];
-    say(output, &record[..mark.end]);
-    if text::same(&record[mark.start..mark.end], b"carry") {
-        return play_with(output, &record[hex.start..hex.end], rest, slice, count);
-    }
-    records::say_record(output, rest);
-    say(output, b"not a record\n");
-    0
-}
-
-// Plays the record of a line.
-fn play_line<W: Write>(
-    output: &mut W,
-    line: &[u8],
-    next: Record,
-    slice: &mut [u32],
-    count: usize,
-) -> usize
-    requires { count ≤ length slice.old }
-    ensures { result ≤ length slice.new }
-{
-    let from = next.start;
-    let to = next.end;
-    if line.len() < to {
-        return 0;
-    }
-    if to < from {
-        return 0;
-    }
-    play(output, &line[from..to], slice, count)
 }
 
 fn main(rt: HostRuntime) {
-    let mut file = rt.stdin();
-    let mut output = rt.stdout();
-    let mut errors = rt.stderr();
-    let mut chunk = input::buffer();
-    let mut line = input::line_room();
-    let mut next = records::start();
-    let mut slice = [0u32; 65];
-    let mut count: usize = 0;
-    for _ in 0..u64::MAX {
-        next = records::next(
-            &mut file,
-            &mut output,
-            &mut errors,
-            next,
-            &mut chunk,
-            &mut line,
-        );
-        if next.end <= next.start {
-            return;
-        }
-        count = play_line(&mut output, &line, next, &mut slice, count);
-    }
+    let mut carryover = Carryover::none();
+    records::play_all(
+        &mut Lines::<_, CHUNK_ROOM>::new(&mut rt.stdin()),
+        &mut [0; LINE_ROOM],
+        &mut rt.stdout(),
+        &mut rt.stderr(),
+        |output, record| play(output, record, &mut carryover),
+    );
 }

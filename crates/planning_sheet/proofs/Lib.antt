@@ -1,3 +1,3 @@
-pub mod Turns
+pub mod Listed
 pub mod Ranges
 pub mod Refusals

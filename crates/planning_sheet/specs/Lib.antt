@@ -1,2 +1,4 @@
+pub mod Listing
 pub mod Sheet
 pub mod Good
+pub mod View

@@ -1,12 +1,14 @@
 -- Document 01, "Planning sheet": section count 1..64; per section length, lanes, FFS, CAF; then per section inflow and outflow.
-use Rattle.std.specs.Prelude.{ℕ, ◌+◌, ◌*◌, ◌%◌, Bool, true, false, ◌&&◌, List, leb, ltb, eqb, get_or, replicate, if◌then◌else◌}
+use Rattle.std.specs.Prelude.{ℕ, ◌+◌, ◌*◌, ◌%◌, Bool, ◌&&◌, List, leb, ltb, eqb, get_or, if◌then◌else◌}
 use Rattle.numbers.specs.declared.Range.{Range}
+use Rattle.refusals.specs.declared.Refusal.TheVariants.{OutOfRange}
 use Rattle.numbers.specs.Number.{Reading, Read, Refused, read_number}
 use Rattle.numbers.specs.Field.{read_field}
-use Rattle.numbers.specs.Row.{Rows, ReadRow, RefusedAt, fields, padded_to}
-use Rattle.sections.specs.declared.section.Section.{Section}
-use Rattle.planning_sheet.specs.declared.SectionsReading.{SectionsReading}
+use Rattle.numbers.specs.Row.{Rows, ReadRow, RefusedAt, fields}
+use Rattle.numbers.specs.Filled.{filled}
+use Rattle.sections.specs.Section.{SectionNumbers}
 use Rattle.sections.specs.Table.{tabled}
+use Rattle.planning_sheet.specs.Listing.{first}
 
 -- low .. high
 abbrev pub between : ℕ → ℕ → ℕ → Bool
@@ -33,35 +35,8 @@ held_to n k (Refused e) = Refused e
 unfoldable pub field_at : (count : ℕ) → List ℕ → (place at : ℕ) → Reading
 field_at n bytes k at = held_to n k (read_number bytes at)
 
--- what reading a sheet gives: the section count, the numbers after it and how many bytes were used; or a refusal's number and offset
-pub data Reads : Type 0 where
-  Sections : ℕ → List ℕ → ℕ → Reads
-  NoSections : ℕ → ℕ → Reads
-
--- the numbers of n sections; a row has the 384 places of the largest sheet, zeros after the sheet's own
-unfoldable pub sections_of : ℕ → Rows → Reads
-sections_of n (ReadRow row used) = Sections n (padded_to 384 row) used
-sections_of n (RefusedAt e at) = NoSections e at
-
--- six numbers for each of n sections
-unfoldable pub sections_from : ℕ → List ℕ → ℕ → Reads
-sections_from n bytes at = sections_of n (fields (field_at n bytes) (6 * n) 0 at)
-
--- the section count
-abbrev pub count_range : Range
-count_range = record { low = 1; high = 64; refusal = 4 }
-
--- the section count comes first
-unfoldable pub sheet_from : List ℕ → Reading → Reads
-sheet_from bytes (Read n next) = sections_from n bytes next
-sheet_from bytes (Refused e) = NoSections e 0
-
--- a sheet at the start of the bytes
-unfoldable pub read_sheet : List ℕ → Reads
-read_sheet bytes = sheet_from bytes (read_field count_range bytes 0)
-
 -- section i of n, from 0
-unfoldable pub section_of : ℕ → List ℕ → ℕ → Section
+unfoldable pub section_of : ℕ → List ℕ → ℕ → SectionNumbers
 section_of n row i =
     record {
       length = get_or row (4 * i) 0;
@@ -72,7 +47,33 @@ section_of n row i =
       outflow = get_or row (4 * n + 2 * i + 1) 0;
     }
 
--- a reading as the code holds it: every other number of a refusal is 0
-unfoldable pub sections_reading : Reads → SectionsReading
-sections_reading (Sections n row used) = record { read = true; refusal = 0; offset = 0; used = used; count = n; row = row }
-sections_reading (NoSections e at) = record { read = false; refusal = e; offset = at; used = 0; count = 0; row = replicate 384 0 }
+-- what reading a sheet gives: its sections and how many bytes were used; or a refusal's number and offset
+pub data Reads : Type 0 where
+  ReadSections : List SectionNumbers → ℕ → Reads
+  NoSections : ℕ → ℕ → Reads
+
+-- the n sections of a row
+unfoldable pub sections_of : ℕ → Rows → Reads
+sections_of n (ReadRow row used) = ReadSections (first n (section_of n row)) used
+sections_of n (RefusedAt e at) = NoSections e at
+
+-- six numbers for each of n sections; a row has the 384 places of the largest sheet, zeros after the sheet's own
+unfoldable pub sections_from : ℕ → List ℕ → ℕ → Reads
+sections_from n bytes at = sections_of n (filled 384 (fields (field_at n bytes) (6 * n) 0 at))
+
+-- the section count
+abbrev pub count_range : Range
+count_range = record { low = 1; high = 64; refusal = OutOfRange }
+
+-- the section count comes first
+unfoldable pub sheet_from : List ℕ → Reading → Reads
+sheet_from bytes (Read n next) = sections_from n bytes next
+sheet_from bytes (Refused e) = NoSections e 0
+
+-- a sheet at the start of the bytes
+unfoldable pub read_sheet : List ℕ → Reads
+read_sheet bytes = sheet_from bytes (read_field count_range bytes 0)
+
+-- section i of a sheet, from 0
+abbrev pub section_at : List SectionNumbers → ℕ → SectionNumbers
+section_at sections i = get_or sections i (record { length = 0; lanes = 0; ffs = 0; caf = 0; inflow = 0; outflow = 0 })

@@ -1,257 +1,238 @@
-// What the programs share that play records from standard input, one a line: the next record, its words, and how answers are printed.
+// What the programs share that play records from standard input, one a line: the records, their words, and how answers are printed.
 // A comment goes from a `#` to the end of its line. What stands behind an arrow, ` -> `, is an answer from before and is passed over.
 #![tactic(auto)]
 
-ghost use Rattle.std.specs.Prelude.{◌≤◌, length};
+ghost use Rattle.std.specs.Prelude.{◌≡◌, ◌≢◌, ◌<◌, ◌≤◌, ℕ, List, IfSome, MatchOption, Some, length, slice_index};
+ghost use Rattle.text.specs.Text.{number_of};
+ghost use Rattle.records.specs.Rest.{IsOnlyWord, AreBytesOf, AreNumbersOf, IsOutside};
 
-use hexadecimal::Spelled;
-use input::{Kind, Source};
+use input::{Line, Lines};
+use refusals::Refused;
 use std::io::{Read, Write};
-use text::{Numeral, Word};
+use std::{fmt, io};
 
-// A record, by its place in the line; none is left where start and end are the same.
+// The byte that a buffer is filled with before it is written to, so that what a writing leaves alone can be told.
+pub const FILL: u8 = 0xAA;
+
+// Bytes that print as their hexadecimal digits, `-` for none.
 #[derive(Clone, Copy)]
-pub struct Record {
-    pub start: usize,
-    pub end: usize,
-    pub source: Source,
-}
+pub struct Hexadecimal<'a>(pub &'a [u8]);
 
-// How many bytes a word gave; a word that is not bytes in hexadecimal is not fine.
-#[derive(Clone, Copy)]
-pub struct Bytes {
-    pub fine: bool,
-    pub count: usize,
-}
-
-// Numbers that a record may give, with the defaults where it does not; one that is no number, or a third, is not fine.
-#[derive(Clone, Copy)]
-pub struct Numbers {
-    pub fine: bool,
-    pub first: u32,
-    pub second: u32,
-}
-
-pub fn say<W: Write>(output: &mut W, text: &[u8]) {
-    let _ = output.write_all(text);
-}
-
-pub fn say_number<W: Write>(output: &mut W, before: &[u8], n: u64) {
-    say(output, before);
-    let _ = write!(output, "{n}");
-}
-
-// The bytes in hexadecimal, - for none.
-pub fn say_bytes<W: Write>(output: &mut W, bytes: &[u8]) {
-    if bytes.len() == 0 {
-        say(output, b"-");
-    }
-    for b in bytes {
-        let _ = write!(output, "{b:02x}");
-    }
-}
-
-// So many bytes from a place of a buffer, as far as it goes.
-pub fn say_part<W: Write>(output: &mut W, buffer: &[u8], at: usize, count: usize) {
-    if at <= buffer.len() {
-        if count <= buffer.len() - at {
-            say_bytes(output, &buffer[at..at + count]);
+impl fmt::Display for Hexadecimal<'_> {
+    fn fmt<W: fmt::Write>(&self, f: &mut fmt::Formatter<W>) -> fmt::Result {
+        if self.0.is_empty() {
+            return write!(f, "-");
         }
+        for b in self.0 {
+            write!(f, "{b:02x}")?;
+        }
+        Ok(())
     }
 }
 
-// Tells where a buffer that was filled with one byte has another one outside a part that was to be written.
-pub fn say_altered<W: Write>(output: &mut W, buffer: &[u8], fill: u8, at: usize, count: usize) {
+// The place of the first byte outside a part of a buffer that is not what the buffer was filled with.
+// Stays: no plainer. `position` tells its closure no place, and over `enumerate` the place would have to be taken out of a pair again.
+fn altered_at(buffer: &[u8], fill: u8, at: usize, count: usize) -> Option<usize>
+    ensures { MatchOption result
+        ((k : ℕ) → k < length buffer.now → IsOutside at count k → slice_index buffer.now k ≡ fill)
+        (λ i. (i < length buffer.now) × IsOutside at count i × (slice_index buffer.now i ≢ fill)) }
+{
     for (i, b) in buffer.iter().enumerate() {
-        let inside = (at <= i) && (i - at < count);
-        if !inside & (*b != fill) {
-            say_number(output, b", and the buffer is altered at ", i as u64);
-            return;
+        if *b != fill && (i < at || count <= i - at) {
+            return Some(i);
         }
+    }
+    None
+}
+
+// Tells where a filled buffer is altered outside a part that was to be written.
+pub fn say_altered<W: Write>(
+    output: &mut W,
+    buffer: &[u8],
+    fill: u8,
+    at: usize,
+    count: usize,
+) -> io::Result<()> {
+    match altered_at(buffer, fill, at, count) {
+        Some(place) => write!(output, ", and the buffer is altered at {place}"),
+        None => Ok(()),
     }
 }
 
-pub fn say_refused<W: Write>(output: &mut W, number: u8, offset: usize) {
-    let _ = write!(output, "refused {number} {offset}");
+// The bytes that a call wrote to a filled buffer from a place on, or its refusal; and where a byte is altered that had to stay.
+pub fn say_written<W: Write>(
+    output: &mut W,
+    written: Result<usize, Refused>,
+    buffer: &[u8],
+    at: usize,
+) -> io::Result<()> {
+    match written {
+        Ok(count) => {
+            write!(output, "ok ")?;
+            if let Some(bytes) = buffer.get(at..).and_then(|bytes| bytes.get(..count)) {
+                write!(output, "{}", Hexadecimal(bytes))?;
+            }
+            say_altered(output, buffer, FILL, at, count)
+        }
+        Err(refused) => {
+            write!(output, "{refused}")?;
+            say_altered(output, buffer, FILL, 0, 0)
+        }
+    }
 }
 
 // The record again, and the arrow before its answer.
-pub fn say_record<W: Write>(output: &mut W, record: &[u8]) {
-    say(output, record);
-    say(output, b" -> ");
+pub fn say_record<W: Write>(output: &mut W, record: &[u8]) -> io::Result<()> {
+    output.write_all(record)?;
+    output.write_all(b" -> ")
 }
 
-// The part of a line that is a record: from its first word to the last before an arrow or a comment.
-fn record_in(line: &[u8]) -> Word
-    ensures order { result.start ≤ result.end }
-    ensures within { result.end ≤ length line.now }
+// A record with its answer, on a line: what the answer prints, or the words that stand for none.
+pub fn say_answer<W: Write, A: FnOnce(&mut W) -> Option<io::Result<()>>>(
+    output: &mut W,
+    record: &[u8],
+    answer: A,
+    none: &str,
+) -> io::Result<()>
+    requires { A.IsAlwaysCallable answer }
 {
-    let name = text::next_word(line, 0);
-    let start = name.start;
-    let mut end = name.end;
-    while end < line.len() {
-        let w = text::next_word(line, end);
-        if w.end <= w.start {
-            return Word { start, end };
-        }
-        if text::same(&line[w.start..w.end], b"->") {
-            return Word { start, end };
-        }
-        end = w.end;
+    say_record(output, record)?;
+    match answer(output) {
+        Some(answered) => answered?,
+        None => write!(output, "{none}")?,
     }
-    Word { start, end }
+    writeln!(output)
+}
+
+// The part of a line that is a record, from its first word to the last before an arrow or a comment, and what stands behind it; none of a
+// line with no word.
+fn split_record(line: &[u8]) -> Option<(&[u8], &[u8])> {
+    let (name, mut rest) = text::next_word(line)?;
+    let start = line.len() - rest.len() - name.len();
+    while let Some((word, left)) = text::next_word(rest) {
+        if text::same(word, b"->") {
+            break;
+        }
+        rest = left;
+    }
+    Some((&line[start..line.len() - rest.len()], rest))
 }
 
 // The record of a line that is longer than its buffer, which has the start of it: whole where a comment or an arrow stands behind it,
 // else it is told, and none.
-fn record_in_long<W: Write>(output: &mut W, start: &[u8]) -> Word
-    ensures order { result.start ≤ result.end }
-    ensures within { result.end ≤ length start.now }
-{
-    let record = record_in(start);
-    let behind = text::next_word(start, record.end);
-    if behind.start < start.len() {
+fn record_in_long<'a, W: Write>(output: &mut W, start: &'a [u8]) -> Option<&'a [u8]> {
+    let (record, behind) = match split_record(start) {
+        Some((record, behind)) => (Some(record), behind),
+        None => (None, start),
+    };
+    if behind.iter().any(|b| !text::is_white(*b)) {
         return record;
     }
-    say(output, start);
-    say_number(output, b"... -> longer than ", start.len() as u64);
-    say(output, b" bytes, and not played\n");
-    Word { start: 0, end: 0 }
+    let length = start.len();
+    let _ = output.write_all(start);
+    let _ = writeln!(output, "... -> longer than {length} bytes, and not played");
+    None
 }
 
-// Before the first record.
-pub fn start() -> Record {
-    Record {
-        start: 0,
-        end: 0,
-        source: input::start(),
+// The record of a line; none of a line that is empty, a comment or too long, which is told.
+fn record_of<'a, W: Write>(output: &mut W, line: Line<'a>) -> Option<&'a [u8]> {
+    match line {
+        Line::Whole(whole) => Some(split_record(whole)?.0),
+        Line::Long(start) => record_in_long(output, start),
     }
 }
 
-// The record of what a read of a line gave, none where there is none; a line that is too long and a read that failed are told.
-fn record_of<W: Write, E: Write>(output: &mut W, errors: &mut E, kind: Kind, line: &[u8]) -> Word
-    ensures order { result.start ≤ result.end }
-    ensures within { result.end ≤ length line.now }
+// Plays each record of a file, in order; a line of it has to fit the buffer. What cannot be printed is lost, and a read that fails is told.
+pub fn play_all<
+    R: Read,
+    W: Write,
+    E: Write,
+    P: FnMut(&mut W, &[u8]) -> io::Result<()>,
+    const N: usize,
+>(lines: &mut Lines<'_, R, N>, line: &mut [u8], output: &mut W, errors: &mut E, mut play: P)
+    requires { P.IsAlwaysCallable play }
 {
-    match kind {
-        Kind::Whole => record_in(line),
-        Kind::Long => record_in_long(output, line),
-        Kind::End => Word { start: 0, end: 0 },
-        Kind::Failed => {
-            let _ = errors.write_all(b"standard input cannot be read\n");
-            Word { start: 0, end: 0 }
-        }
-    }
-}
-
-// Takes the record behind another from a file; empty lines and comments are passed over.
-pub fn next<R: Read, W: Write, E: Write>(
-    file: &mut R,
-    output: &mut W,
-    errors: &mut E,
-    before: Record,
-    chunk: &mut [u8],
-    line: &mut [u8],
-) -> Record
-    ensures order { result.start ≤ result.end }
-    ensures within { result.end ≤ length line.new }
-{
-    let mut source = before.source;
     for _ in 0..u64::MAX {
-        let got = input::next_line(file, source, chunk, line);
-        source = got.source;
-        let part = record_of(output, errors, got.kind, &line[..got.length]);
-        if (part.start < part.end) | input::is_at_end(source) {
-            return Record {
-                start: part.start,
-                end: part.end,
-                source,
-            };
+        match lines.next_line(line) {
+            Ok(Some(taken)) => {
+                if let Some(record) = record_of(output, taken) {
+                    let _ = play(output, record);
+                }
+            }
+            Ok(None) => return,
+            Err(_) => {
+                let _ = writeln!(errors, "standard input cannot be read");
+                return;
+            }
         }
-    }
-    Record {
-        start: 0,
-        end: 0,
-        source,
     }
 }
 
 // The one word of what is left of a record; none where there is no word or more than one.
-pub fn only_word(rest: &[u8]) -> Word
-    ensures order { result.start ≤ result.end }
-    ensures within { result.end ≤ length rest.now }
+pub fn only_word(rest: &[u8]) -> Option<&[u8]>
+    ensures is { IfSome result (λ word. IsOnlyWord rest.now word.now) }
+    ensures within { IfSome result (λ word. length word.now ≤ length rest.now) }
 {
-    let w = text::next_word(rest, 0);
-    let more = text::next_word(rest, w.end);
-    if more.start < more.end {
-        return Word { start: 0, end: 0 };
+    let (word, behind) = text::next_word(rest)?;
+    match text::next_word(behind) {
+        Some(_) => None,
+        None => Some(word),
     }
-    w
 }
 
 // The one number of what is left of a record.
-pub fn only_number(rest: &[u8]) -> Numeral {
-    let w = only_word(rest);
-    text::number(&rest[w.start..w.end])
+pub fn only_number(rest: &[u8]) -> Option<u32>
+    ensures { IfSome result (λ n. (word : List ℕ) × IsOnlyWord rest.now word × (number_of word ≡ Some n)) }
+{
+    text::number(only_word(rest)?)
 }
 
 // The bytes of a word, `-` for none, put at the start of a lent buffer.
-pub fn bytes_of(word: &[u8], out: &mut [u8]) -> Bytes
-    ensures { result.count ≤ length out.new }
+pub fn bytes_of<'a>(word: &[u8], out: &'a mut [u8]) -> Option<&'a [u8]>
+    ensures are { IfSome result (λ bytes. AreBytesOf word.now bytes.now) }
+    ensures within { IfSome result (λ bytes. length bytes.now ≤ length out.old) }
 {
-    let none = text::same(word, b"-");
-    if none | (word.len() == 0) {
-        return Bytes {
-            fine: none,
-            count: 0,
-        };
+    if text::same(word, b"-") {
+        return Some(&out[..0]);
     }
-    if let Spelled::Count(count) = hexadecimal::bytes(word, out) {
-        if count <= out.len() {
-            return Bytes { fine: true, count };
-        }
+    if word.is_empty() {
+        return None;
     }
-    Bytes {
-        fine: false,
-        count: 0,
-    }
+    hexadecimal::bytes(word, out).ok()
 }
 
 // The bytes of the one word of what is left of a record.
-pub fn only_bytes(rest: &[u8], out: &mut [u8]) -> Bytes
-    ensures { result.count ≤ length out.new }
+pub fn only_bytes<'a>(rest: &[u8], out: &'a mut [u8]) -> Option<&'a [u8]>
+    ensures are { IfSome result (λ bytes. (word : List ℕ) × IsOnlyWord rest.now word × AreBytesOf word bytes.now) }
+    ensures within { IfSome result (λ bytes. length bytes.now ≤ length out.old) }
 {
-    let w = only_word(rest);
-    bytes_of(&rest[w.start..w.end], out)
+    bytes_of(only_word(rest)?, out)
 }
 
-// The number of a word, or one that stands for a word that is not there.
-fn number_or(word: &[u8], default: u32) -> Numeral {
-    if word.len() == 0 {
-        return Numeral::Value(default);
+// Puts the numbers of what is left of a record in the place of the first of these; nothing where one is no number, or there are more.
+fn put_numbers(rest: &[u8], numbers: &mut [u32]) -> Option<()>
+    ensures { IfSome result (λ _. AreNumbersOf rest.now numbers.old numbers.new) }
+{
+    let mut left = rest;
+    for number in numbers.iter_mut() {
+        let Some((word, behind)) = text::next_word(left) else {
+            return Some(());
+        };
+        *number = text::number(word)?;
+        left = behind;
     }
-    text::number(word)
+    match text::next_word(left) {
+        Some(_) => None,
+        None => Some(()),
+    }
 }
 
-// The numbers of what is left of a record, none, one or two of them.
-pub fn up_to_two(rest: &[u8], first: u32, second: u32) -> Numbers {
-    let a = text::next_word(rest, 0);
-    let b = text::next_word(rest, a.end);
-    let more = text::next_word(rest, b.end);
-    if more.end <= more.start {
-        if let Numeral::Value(x) = number_or(&rest[a.start..a.end], first) {
-            if let Numeral::Value(y) = number_or(&rest[b.start..b.end], second) {
-                return Numbers {
-                    fine: true,
-                    first: x,
-                    second: y,
-                };
-            }
-        }
-    }
-    Numbers {
-        fine: false,
-        first: 0,
-        second: 0,
-    }
+// The numbers of what is left of a record, with defaults for those at its end that it does not give; none where one is no number, or
+// there are more.
+pub fn numbers<const N: usize>(rest: &[u8], defaults: [u32; N]) -> Option<[u32; N]>
+    ensures { IfSome result (λ numbers. AreNumbersOf rest.now defaults.entry numbers) }
+{
+    let mut numbers = defaults;
+    put_numbers(rest, &mut numbers)?;
+    Some(numbers)
 }

@@ -79,7 +79,7 @@ impl fmt::Display for Refusal {
 
 impl Error for Refusal {}
 
-// A refusal and the offset of the field's first byte; those that have none have 0.
+// A refusal and where it stands in the bytes that were read; those that have no place have 0.
 #[derive(Clone, Copy, Debug, PartialEq, Eq)]
 pub struct Refused {
     pub refusal: Refusal,
@@ -93,8 +93,8 @@ impl Refused {
         ensures { result ≡ moved_by bytes self }
     {
         Refused {
-            refusal: self.refusal,
             offset: bytes + self.offset,
+            ..self
         }
     }
 }

@@ -1,5 +1,5 @@
 -- Closed forms: what each rule comes to where a test spares a search or a division.
-use Prim.Native.Nat.{ℕ, suc, ◌+◌, ◌-◌, ◌*◌, ◌/◌, ◌≤◌, ◌<◌, min, max}
+use Prim.Native.Nat.{ℕ, suc, ◌+◌, ◌-◌, ◌*◌, ◌/◌, ◌≤◌, ◌<◌, min}
 use mathlib.Core.Path.{◌≡◌, refl, sym, ◌∙◌}
 use mathlib.Core.Bool.{Bool, true, false}
 use native.Mathlib.Nat.{le-div_iff_mul-le, div-lt_iff_lt-mul, mul_assoc, mul-le-mul, mul-le-mul_left}
@@ -11,18 +11,9 @@ use Rattle.conditions.specs.Shortcuts.{easy_below, full_from}
 use Rattle.rules.specs.Rules.{rounded_up, wish_to_leave, supply, ramp_flow, main_flow}
 use Rattle.rules.proofs.Formulas.{main_flow_most, merge_exact, ramp_flow_most}
 
--- ---- least and most of numbers whose order is known
+-- the least of three, where the last is no less than the first
 least_first : (a b x : ℕ) → a ≤ x → min a (min b x) ≡ min a b
 least_first a b x h = omega arith
-
-least_most : (w a b : ℕ) → w ≤ a → min w (max a b) ≡ w
-least_most w a b h = omega arith
-
-most_first : (w a b : ℕ) → a < w → b ≤ a → min w (max a b) ≡ a
-most_first w a b h l = omega arith
-
-most_last : (w a b : ℕ) → a < b → min w (max a b) ≡ min w b
-most_last w a b h = omega arith
 
 -- ---- D: by the speed with fewer parts than full, else the lesser of the parts and C; the reach is 22 × V
 -- below full the reach is short of L, and fewer than C get away
@@ -122,19 +113,6 @@ supply_easy e c j q n pos low h = by_jam (ltb j c) refl h
     by_jam : (t : Bool) → ltb j c ≡ t → n < (if t then 0 else min q (j - c) + 1) → supply e c j q n ≡ e
     by_jam true _ l = absurd (omega arith)
     by_jam false b l = supply_below_critical e c j q n (j - n) refl pos low (omega arith) ∙ omega (arith, ltb-false j c b)
-
--- ---- r: all that wish where the rest takes them; else the larger of the rest and the ramp's share
-pub ramp_flow_all : (p n m w : ℕ) → w ≤ p - m → ramp_flow p n m w ≡ w
-unfolding ramp_flow
-ramp_flow_all p n m w h = least_most w (p - m) (p / (2 * n)) h
-
-pub ramp_flow_rest : (p n m w : ℕ) → p - m < w → p / (2 * n) ≤ p - m → ramp_flow p n m w ≡ p - m
-unfolding ramp_flow
-ramp_flow_rest p n m w h l = most_first w (p - m) (p / (2 * n)) h l
-
-pub ramp_flow_share : (p n m w : ℕ) → p - m < p / (2 * n) → ramp_flow p n m w ≡ min w (p / (2 * n))
-unfolding ramp_flow
-ramp_flow_share p n m w l = most_last w (p - m) (p / (2 * n)) l
 
 -- ---- f and r where both wishes fit: all enter, and of each no more than wish to
 pub both_fit : (p n m w : ℕ) → m + w ≤ p → (main_flow m p (ramp_flow p n m w) ≡ m) × (ramp_flow p n m w ≡ w)

@@ -5,9 +5,9 @@ use mathlib.Core.Path.{◌≡◌, refl, sym, ◌∙◌}
 use mathlib.Core.Logic.{◌↔◌}
 use native.Mathlib.Omega.{arith}
 use lib.Dec.{leb}
-use borrow.Author.Tests.{leb-true, leb-false, lt-leb}
+use borrow.Author.Tests.{leb-true, leb-false, le-leb, lt-leb}
 use Rattle.std.specs.Prelude.{if◌then◌else◌}
-use Rattle.arithmetic.proofs.Tests.{leb_iff}
+use Rattle.std.proofs.lemmas.Bool.Decides.{same_from_decides}
 use Rattle.rules.specs.Rules.{largest}
 
 -- ---- of any test
@@ -50,7 +50,8 @@ largest_min p m (suc b) h = rw (h (suc b), largest_min p m b h) (one_more b m (l
 -- where a function is at most f just up to m, and above f at the bound, it is m
 pub largest_bound : (g : ℕ → ℕ) (f m b : ℕ) → ((y : ℕ) → (g y ≤ f) ↔ (y ≤ m)) → f < g b → largest (λ y. leb (g y) f) b ≡ m
 largest_bound g f m b bound h =
-    let same : (y : ℕ) → leb (g y) f ≡ leb y m = λ y. leb_iff _ _ _ _ (bound y) in
+    let same : (y : ℕ) → leb (g y) f ≡ leb y m =
+    λ y. same_from_decides _ _ (λ e. (bound y).0 (leb-true (g y) f e), λ l. le-leb (g y) f ((bound y).1 l)) (leb-true y m, le-leb y m) in
     omega (arith, largest_min (λ y. leb (g y) f) m b same, leb-false b m (sym (same b) ∙ lt-leb (g b) f h))
 
 -- ---- of a test by a function that starts at zero and rises by at most one

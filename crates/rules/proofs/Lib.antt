@@ -1,4 +1,5 @@
 pub mod Formulas
 pub mod Largest
 pub mod Splits
+pub mod View
 pub mod Closed

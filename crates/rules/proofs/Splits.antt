@@ -6,8 +6,7 @@ use native.Mathlib.Nat.{le-div_iff_mul-le, mul-sub, mul-zero, suc-mul, eq-or-lt_
 use native.Mathlib.Omega.{arith}
 use lib.Dec.{leb}
 use borrow.Author.Tests.{le-leb, leb-true}
-use Rattle.rules.specs.declared.Split.{Split}
-use Rattle.rules.specs.Rules.{off, remainder_after, through, most_leaving, leaving}
+use Rattle.rules.specs.Rules.{Split, off, remainder_after, through, most_leaving, leaving}
 use Rattle.rules.proofs.Largest.{largest_most, largest_passes, largest_reaches, largest_whole, largest_bound}
 use Rattle.rules.specs.Good.{GoodSplit}
 

@@ -1,6 +1,6 @@
 -- What the arithmetic of the split asks of it: no rule of document 01.
 use Rattle.std.specs.Prelude.{◌≤◌, ◌<◌}
-use Rattle.rules.specs.declared.Split.{Split}
+use Rattle.rules.specs.Rules.{Split}
 
 pub record GoodSplit (s : Split) : Type 0 where
   pub share : s.share ≤ 1000

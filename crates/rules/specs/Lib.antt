@@ -1,3 +1,4 @@
 pub mod Rules
+pub mod View
 pub mod Outflow
 pub mod Good

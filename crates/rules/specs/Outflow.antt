@@ -1,8 +1,7 @@
 -- What the code hands on of those who leave: no rule of document 01.
 use Rattle.std.specs.Prelude.{ℕ}
-use Rattle.rules.specs.declared.Split.{Split}
 use Rattle.rules.specs.declared.Outflow.{Outflow}
-use Rattle.rules.specs.Rules.{remainder_after, through}
+use Rattle.rules.specs.Rules.{Split, remainder_after, through}
 
 -- what leaves where y do: y, through(y) of them by the mainline, and the remainder after
 abbrev pub outflow : Split → (leaving : ℕ) → Outflow

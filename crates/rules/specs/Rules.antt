@@ -1,7 +1,6 @@
 -- Document 01, "One step": each rule as a formula, in the paper's order; C, the lowered C, J, Q and the lanes are those in force, which stand
 -- in the conditions. Every difference is zero where it would be negative, J − n too (document 02, Q-1).
 use Rattle.std.specs.Prelude.{ℕ, zero, suc, ◌+◌, ◌-◌, ◌*◌, ◌/◌, ◌%◌, min, max, Bool, leb, if◌then◌else◌}
-use Rattle.rules.specs.declared.Split.{Split}
 use Rattle.rules.specs.declared.Flow.{Flow}
 
 -- the largest y up to b that passes the test, by search from the top
@@ -17,7 +16,12 @@ rounded_up a b = (a + (b - 1)) / b
 unfoldable pub wish_to_leave : (parts capacity speed length : ℕ) → ℕ
 wish_to_leave n c v l = min n (min c (rounded_up (n * 22 * v) l))
 
--- off(y) = (y × s + remainder) / 1000, of what the split goes by (document 02, Q-3)
+-- what off(y) goes by (document 02, Q-3): the share s, and the remainder at the step's start
+pub record Split : Type 0 where
+  pub share : ℕ
+  pub remainder : ℕ
+
+-- off(y) = (y × s + remainder) / 1000
 unfoldable pub off : Split → (leaving : ℕ) → ℕ
 off s y = (y * s.share + s.remainder) / 1000
 

@@ -5,48 +5,20 @@ ghost use Rattle.std.specs.Prelude.{◌≡◌};
 ghost use Rattle.running.specs.Steps.{steps_of};
 ghost use Rattle.running.specs.Ready.{Ready};
 
-use arithmetic::{less_wide, wide};
 use door::Facility;
-use steps::Ends;
 
-// Makes k steps under the sheet in force, in place in a row of cells.
-pub fn make_steps(f: Facility, k: u32) -> Facility
-    requires { Ready f k }
-    ensures { result ≡ steps_of k f }
+// Makes k steps under the sheet in force, in place.
+pub fn make_steps(f: &mut Facility, k: u32)
+    requires { Ready f.old k }
+    ensures { f.new ≡ steps_of k f.old }
 {
-    let road = f.road;
-    let period = f.period;
-    let state = f.state;
-    let mut row = [0u32; 835];
-    conditions::work_out(&road, &period, &mut row);
-    let arrives = wide(steps::arrived(&row));
-    let mut cells = [0u32; 448];
-    steps::put_cells(&mut cells, state);
-    let mut ends = Ends {
-        origin: state.origin,
-        exit: state.exit,
-    };
-    let mut arrived = f.arrived;
-    let mut left = f.left;
-    let mut partsteps = f.partsteps;
-    let mut i: u32 = 0;
-    while i < k {
-        let next = steps::step(&row, &mut cells, ends);
-        ends = next.ends;
-        arrived += arrives;
-        left += wide(next.left);
-        partsteps += less_wide(arrived, left);
-        i += 1;
-    }
-    let after = steps::state_of(&cells, ends);
-    Facility {
-        road,
-        period,
-        taken: f.taken,
-        made: f.made + k,
-        state: after,
-        arrived,
-        left,
-        partsteps,
+    let conditions = conditions::work_out(&f.road, &f.period);
+    let arrives = u64::from(steps::arrived(&conditions));
+    for _ in 0..k {
+        let leaves = steps::step(&conditions, &mut f.state);
+        f.made += 1;
+        f.arrived += arrives;
+        f.left += u64::from(leaves);
+        f.partsteps += f.arrived.saturating_sub(f.left);
     }
 }

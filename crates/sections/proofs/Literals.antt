@@ -22,3 +22,5 @@ whole_3600 = refl
 pub whole_5280 : of_bits binary64 4662527436095750144 ≡ of_int binary64 (pos 5280)
 unfolding of_bits of_int
 whole_5280 = refl
+
+pub ruleset literals = (zero_is, one_is, whole_450, whole_3600, whole_5280)

@@ -3,9 +3,8 @@ use mathlib.Core.Path.{◌≡◌, refl}
 use Prim.Native.Nat.{ℕ}
 use mathlib.Core.List.{List, [], ◌∷◌, map}
 use lib.Ieee.{Float, binary64, of_bits, of_int, add, sub, mul, div, lt}
-use Rattle.sections.specs.declared.section.Section.{Section}
 use Rattle.sections.specs.Table.{row_of, row75, row70, row65, row60, row55}
-use Rattle.sections.specs.Section.{Outcome, free, slowed, queued, work_of, judged_of, answer_of, capacity_of, ratio_of, curve_of, under_of, over_of, travel_of, speed_of, density_of}
+use Rattle.sections.specs.Section.{SectionNumbers, Outcome, free, slowed, queued, work_of, judged_of, answer_of, capacity_of, ratio_of, curve_of, under_of, over_of, travel_of, speed_of, density_of}
 
 -- an f64 by its 64 bits
 abbrev pub bits : ℕ → Float
@@ -13,7 +12,7 @@ bits n = of_bits binary64 n
 
 -- a section with its demand, and the answer
 record Worked : Type 0 where
-  section : Section
+  section : SectionNumbers
   demand : ℕ
   answer : Outcome
 

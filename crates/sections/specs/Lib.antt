@@ -1,5 +1,5 @@
 pub mod Real
 pub mod Table
-pub mod Places
 pub mod Section
+pub mod Numbers
 pub mod Good

@@ -1,20 +1,28 @@
 -- Document 01, "Planning sheet": one section, from its demand, in the paper's order of operations. Equation numbers are document 000's.
-use Rattle.std.specs.Prelude.{ℕ, ◌+◌, ◌*◌, ◌-◌, ◌/◌, min, ltb, Float, if◌then◌else◌}
+use Rattle.std.specs.Prelude.{ℕ, ◌+◌, ◌*◌, ◌-◌, ◌/◌, Bool, true, false, min, ltb, Float, if◌then◌else◌}
 use Rattle.std.specs.Float.Ieee.{lt}
 use Rattle.sections.specs.declared.table.Row.{Row}
-use Rattle.sections.specs.declared.section.Section.{Section}
-use Rattle.sections.specs.declared.section.Work.{Work}
-use Rattle.sections.specs.declared.Answer.{Answer}
-use Rattle.sections.specs.declared.Answer.TheVariants.{Free, Slowed, Queued}
+use Rattle.sections.specs.declared.work.Work.{Work}
+use Rattle.sections.specs.declared.answer.Answer.{Answer}
+use Rattle.sections.specs.declared.answer.Answer.TheVariants.{Free, Slowed, Queued}
 use Rattle.sections.specs.Real.{real, ◌⊕◌, ◌⊖◌, ◌⊗◌, ◌⊘◌}
 use Rattle.sections.specs.Table.{row_of}
 
+-- a section of the sheet: length in feet, lanes, free-flow speed, capacity factor in thousandths, and the flows in and out
+pub record SectionNumbers : Type 0 where
+  pub length : ℕ
+  pub lanes : ℕ
+  pub ffs : ℕ
+  pub caf : ℕ
+  pub inflow : ℕ
+  pub outflow : ℕ
+
 -- c: the capacity (25-45, by all lanes and the section's factor)
-unfoldable pub capacity_of : Section → ℕ
+unfoldable pub capacity_of : SectionNumbers → ℕ
 capacity_of s = (2200 + 10 * (min 70 s.ffs - 50)) * s.lanes * s.caf / 1000
 
 -- the new carryover, max(d - c, 0) (25-44)
-unfoldable pub carried_of : Section → ℕ → ℕ
+unfoldable pub carried_of : SectionNumbers → ℕ → ℕ
 carried_of s d = d - capacity_of s
 
 -- p: demand to capacity
@@ -46,7 +54,7 @@ unfoldable pub density_of : ℕ → ℕ → Float → Float
 density_of lanes d speed = (real d ⊘ speed) ⊘ real lanes
 
 -- p, RU, RO, speed and density of a section
-unfoldable pub work_of : Row → Section → ℕ → ℕ → Work
+unfoldable pub work_of : Row → SectionNumbers → ℕ → ℕ → Work
 work_of r s c d =
     let p = ratio_of d c in
     let ru = under_of r p in
@@ -74,9 +82,23 @@ judged_of r c d w =
     else slowed w.under w.speed w.density
 
 -- the answer of a section whose demand is d
-unfoldable pub answer_of : Section → ℕ → Outcome
+unfoldable pub answer_of : SectionNumbers → ℕ → Outcome
 answer_of s d = let c = capacity_of s in judged_of (row_of s.ffs) c d (work_of (row_of s.ffs) s c d)
 
 -- the answer of no section
 abbrev pub no_answer : Outcome
 no_answer = free (real 0) (real 0)
+
+abbrev pub density_in : Outcome → Float
+density_in (free v k) = k
+density_in (slowed ru v k) = k
+density_in (queued ru ro v k) = k
+
+abbrev pub queued_in : Outcome → Bool
+queued_in (free v k) = false
+queued_in (slowed ru v k) = false
+queued_in (queued ru ro v k) = true
+
+-- L x lanes
+abbrev pub area_of : SectionNumbers → ℕ
+area_of s = s.length * s.lanes

@@ -1,5 +1,5 @@
 -- What the code carries from a segment to the node ahead, and from a node to the segment behind it: no rule of document 01.
-use Rattle.std.specs.Prelude.{ℕ, ◌-◌, leb}
+use Rattle.std.specs.Prelude.{ℕ, ◌-◌}
 use Rattle.conditions.specs.declared.InForce.{InForce}
 use Rattle.rules.specs.declared.Flow.{Flow}
 use Rattle.rules.specs.Outflow.{outflow}
@@ -12,9 +12,9 @@ use Rattle.segment.specs.Place.{split_of, most_of, queued_of}
 unfoldable pub sent_of : InForce → Cell → Sent
 sent_of here cell = record { most = outflow (split_of here cell) (most_of here cell); queued = queued_of here cell }
 
--- f and r, the ramp's queue that is left of those who waited, and whether all entered who wished to by the mainline
-abbrev pub entered : Flow → (main_wish waiting : ℕ) → Entered
-entered flow m waiting = record { main = flow.main; ramp = flow.ramp; queue = waiting - flow.ramp; all = leb m flow.main }
+-- f and r, and the ramp's queue that is left of those who waited
+abbrev pub entered : Flow → (waiting : ℕ) → Entered
+entered flow waiting = record { main = flow.main; ramp = flow.ramp; queue = waiting - flow.ramp }
 
 -- f and r of it
 abbrev pub flow_of : Entered → Flow

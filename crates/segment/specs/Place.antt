@@ -1,10 +1,9 @@
 -- Document 01, "One step": the rules at one segment, from what is in force there, its cell, and what comes from its neighbours.
 use Rattle.std.specs.Prelude.{ℕ, ◌+◌, ◌-◌, Bool, ltb}
 use Rattle.conditions.specs.declared.InForce.{InForce}
-use Rattle.rules.specs.declared.Split.{Split}
 use Rattle.segment.specs.declared.Cell.{Cell}
 use Rattle.rules.specs.declared.Flow.{Flow}
-use Rattle.rules.specs.Rules.{wish_to_leave, off, remainder_after, through, most_leaving, ramp_wish, entrance, supply, merge, leaving}
+use Rattle.rules.specs.Rules.{Split, wish_to_leave, off, remainder_after, through, most_leaving, ramp_wish, entrance, supply, merge, leaving}
 
 module _ (here : InForce) (cell : Cell) where
   -- what off(y) and through(y) go by: the share s, and the remainder at the step's start

@@ -1,4 +1,4 @@
--- The ranges of the layouts: every refusal has a number, and the numbers in them have at most 32 bits.
+-- The ranges of the layouts: the numbers in them have at most 32 bits.
 use mathlib.Core.Path.{◌≡◌, refl}
 use mathlib.Core.Bool.{Bool, true, false}
 use Prim.Native.Nat.{ℕ, zero, suc, ◌-◌, ◌/◌, ◌%◌, ◌^◌, ◌≤◌, ◌<◌, min}
@@ -14,12 +14,9 @@ use Rattle.sheets.specs.declared.Layout.{Layout}
 use Rattle.sheets.specs.declared.Layout.TheVariants.{Road, Period, FirstPeriod}
 use Rattle.sheets.specs.Layout.{◌to◌, no_range, segment_table, road_table, road_range, same_segments, entry_table, lanes_of, period_range, first_range, range_of, count_of}
 
--- its numbers have at most 32 bits, and its refusal has a number
+-- its numbers have at most 32 bits
 abbrev Fits : Range → Type 0
 Fits r = r.high < 2 ^ 32
-
-abbrev HasNumber : Range → Type 0
-HasNumber r = 1 ≤ r.refusal
 
 abbrev AllOf : (Range → Type 0) → List Range → Type 0
 AllOf P [] = Unit {0}
@@ -52,9 +49,9 @@ module _ (P : Range → Type 0) where
   in_first ns road k a b c =
       choose P (ltb k 3) (period_range ns road k) (0 to 10000) (λ t. in_period ns road k a b (λ l. absurd (omega (arith, ltb-true k 3 t)))) (λ t. c)
 
-road_usable : (k : ℕ) → Fits (road_range k) × HasNumber (road_range k)
-road_usable =
-    in_road (λ r. Fits r × HasNumber r) (omega arith, (omega arith, (omega arith, (omega arith, tt))))
+road_fits : (k : ℕ) → Fits (road_range k)
+road_fits =
+    in_road Fits (omega arith, (omega arith, (omega arith, (omega arith, tt))))
     (omega arith, (omega arith, (omega arith, (omega arith, (omega arith, (omega arith, (omega arith, tt)))))))
 
 -- a layout whose ranges come from a road asks that its lanes have at most 32 bits
@@ -66,18 +63,10 @@ LanesFit (FirstPeriod ns) road = Unit {0}
 -- then the numbers of its ranges have
 pub fits : (l : Layout) (road : List ℕ) → LanesFit l road → (k : ℕ) → k < count_of l → (range_of l road k).high < 2 ^ 32
 unfolding range_of count_of
-fits (Road ns) road lanes k h = (road_usable k).0
+fits (Road ns) road lanes k h = road_fits k
 fits (Period ns) road lanes k h =
     in_period Fits ns road k (omega arith) (omega arith) (λ l. (omega arith, (omega arith, (lanes ((k - 3) / 3) (omega arith), tt))))
 fits (FirstPeriod ns) road lanes k h = in_first Fits ns road k (omega arith) (omega arith) (omega arith)
-
--- every refusal has a number
-pub named : (l : Layout) (road : List ℕ) (k : ℕ) → 1 ≤ (range_of l road k).refusal
-unfolding range_of
-named (Road ns) road k = (road_usable k).1
-named (Period ns) road k =
-    in_period HasNumber ns road k (omega arith) (omega arith) (λ l. (omega arith, (omega arith, (omega arith, tt))))
-named (FirstPeriod ns) road k = in_first HasNumber ns road k (omega arith) (omega arith) (omega arith)
 
 -- a layout has some numbers, and no more than a row
 pub count_some : (l : Layout) → 0 < count_of l

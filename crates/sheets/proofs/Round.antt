@@ -18,7 +18,7 @@ use Rattle.sheets.specs.declared.Layout.{Layout}
 use Rattle.sheets.specs.declared.Layout.TheVariants.{Road, Period, FirstPeriod}
 use Rattle.sheets.specs.Layout.{road_range, same_segments, range_of, count_of, RowOf}
 use Rattle.numbers.specs.Row.{Each, ReadRow, onto, and_then, fields}
-use Rattle.numbers.proofs.Rows.{then_back, each_head, each_tail, fields_each, fields_first}
+use Rattle.numbers.proofs.Rows.{field_before, then_back, each_head, each_tail, fields_each, fields_first}
 use Rattle.sheets.specs.Read.{field_of, read_row, road_from, read_road, read_period, read_first_period, padded, sheet_reading, read_as}
 use Rattle.sheets.specs.Write.{row_bytes, sheet_row, road_row, period_row}
 use Rattle.sheets.proofs.Ranges.{LanesFit, fits, count_some, period_first, first_start}
@@ -40,12 +40,6 @@ Fitting row = Each (λ k v. v < 2 ^ 32) 0 row
 value_reads : (l : Layout) (road : List ℕ) (k v : ℕ) (before rest : List ℕ) → Writable l road k v
     → read_field (range_of l road k) (before ++ (number_bytes v ++ rest)) (length before) ≡ Read v (length before + length (number_bytes v))
 value_reads l road k v before rest h = field_value _ _ _ _ _ (written_reads v before rest h.1) h.0
-
--- a field that was read stands before the fields that follow it
-field_before : (field : (place at : ℕ) → Reading) (left k at v next : ℕ) → field k at ≡ Read v next
-    → fields field (suc left) k at ≡ onto (v ∷ []) (fields field left (k + 1) next)
-unfolding fields and_then
-field_before field left k at v next e = rw e
 
 reads_fields : (l : Layout) (road row : List ℕ) (k : ℕ) (before rest : List ℕ) → Each (Writable l road) k row
     → fields (field_of l road (before ++ (row_bytes row ++ rest))) (length row) k (length before) ≡ ReadRow row (length before + length (row_bytes row))

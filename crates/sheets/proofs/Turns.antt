@@ -1,44 +1,36 @@
--- Laws of the loops: one turn of the reader of a row, one of its writer.
+-- Laws of the reader and the writer of a row: what the one answers, and one turn of the other.
 use mathlib.Core.Path.{◌≡◌, refl, sym, ap, ◌∙◌}
 use Prim.Native.Nat.{ℕ, zero, suc, ◌+◌, ◌*◌, ◌/◌, ◌≤◌, ◌<◌}
 use mathlib.Core.Bool.{Bool, true, false}
 use mathlib.Core.List.{List, [], ◌∷◌, ◌++◌, append_assoc, append-nil}
 use native.Mathlib.Numerals.{add-one}
 use native.Mathlib.Omega.{arith}
-use lib.ListN.{length, take, drop, set, get_or, replicate, length-append, length-drop, take-append-drop}
+use lib.ListN.{length, take, drop, get_or, length-append, length-drop, take-append-drop}
 use lib.Dec.{ltb}
 use lib.Seq.{take-suc, drop-drop, take_at, drop_at}
 use Rattle.std.specs.Prelude.{if◌then◌else◌}
-use Rattle.numbers.specs.Number.{Read, Refused, low_group, bytes_from, number_bytes}
+use Rattle.numbers.specs.Number.{Read, low_group, bytes_from, number_bytes}
 use Rattle.numbers.specs.Field.{read_field}
 use Rattle.numbers.specs.Writing.{write_into}
 use Rattle.numbers.proofs.Writings.{written}
-use Rattle.sheets.specs.declared.Layout.{Layout}
 use Rattle.sheets.specs.declared.Layout.TheVariants.{Road}
-use Rattle.sheets.specs.Layout.{road_range, range_of, count_of}
-use Rattle.numbers.specs.Row.{RefusedAt}
-use Rattle.numbers.proofs.Rows.{Turn, turn_more, turn_refused, turn_row}
-use Rattle.sheets.proofs.Ranges.{count_most}
-use Rattle.sheets.specs.Read.{field_of, read_row, road_from, read_road, sheet_reading}
+use Rattle.sheets.specs.Layout.{road_range, range_of}
+use Rattle.numbers.specs.Row.{Rows, ReadRow, RefusedAt}
+use Rattle.numbers.specs.Filled.{rows, filled}
+use Rattle.numbers.specs.declared.reader.Row.{Row}
+use Rattle.refusals.specs.declared.Refused.{Refused as RefusedPlace}
+use Rattle.std.specs.Prelude.{Result, Ok, Err}
+use Rattle.sheets.specs.Read.{read_row, road_from, read_road, sheet_reading, sheet_told}
 use Rattle.sheets.specs.Write.{row_bytes}
 
--- ---- reading: the turns of a row of the layout, by the one law of every reader
-module _ (l : Layout) (road s : List ℕ) (n : ℕ) (row : List ℕ) (k at : ℕ) (all : n ≡ count_of l) (t : Turn (field_of l road s) 0 n 452 row k at) where
-  most : n ≤ 452
-  most = omega (arith, all, count_most l)
-
-  pub turn_again : (v next : ℕ) → k < n → read_field (range_of l road k) s at ≡ Read v next → Turn (field_of l road s) 0 n 452 (set row k v) (k + 1) next
-  turn_again v next h e = turn_more (field_of l road s) 0 n 452 row k at most t v next h e
-
-  pub row_refused : (e : ℕ) → k < n → read_field (range_of l road k) s at ≡ Refused e → read_row l road s ≡ RefusedAt e at
-  unfolding read_row
-  row_refused e h r = rw (← all) (turn_refused (field_of l road s) 0 n 452 row k at most t e h r)
-
-  pub row_read : n ≤ k → sheet_reading (read_row l road s) ≡ record { refusal = 0; offset = 0; used = at; row = row }
-  unfolding read_row sheet_reading
-  row_read h =
-      let r = turn_row (field_of l road s) 0 n 452 row k at most t h in
-      rw (← all, r.0, r.1)
+-- ---- reading
+-- what the code answers, in numbers
+pub told : (r : Result (Row 452) RefusedPlace) (x : Rows) → rows r ≡ filled 452 x → sheet_told r ≡ sheet_reading x
+unfolding filled sheet_reading
+told (Ok s) (ReadRow row n) e = cc
+told (Ok s) (RefusedAt x at) e = absurd (let z : ◌≡◌ {A = ℕ} 0 1 = cc in omega arith)
+told (Err r) (ReadRow row n) e = absurd (let z : ◌≡◌ {A = ℕ} 0 1 = cc in omega arith)
+told (Err r) (RefusedAt x at) e = cc
 
 -- a road's ranges come from no road
 pub road_alone : (ns : ℕ) (road s : List ℕ) → read_row (Road ns) road s ≡ read_row (Road ns) [] s
@@ -49,11 +41,6 @@ road_alone ns road s = refl
 pub road_read : (s : List ℕ) (ns n : ℕ) → read_field (road_range 0) s 0 ≡ Read ns n → read_road s ≡ read_row (Road ns) [] s
 unfolding read_road road_from
 road_read s ns n e = rw e
-
-pub road_refused : (s : List ℕ) (e : ℕ) → read_field (road_range 0) s 0 ≡ Refused e
-    → sheet_reading (read_road s) ≡ record { refusal = e; offset = 0; used = 0; row = replicate 452 0 }
-unfolding read_road road_from sheet_reading
-road_refused s e h = rw h
 
 -- ---- writing
 bytes_most : (k v : ℕ) → length (bytes_from k v) ≤ k + 1
@@ -121,6 +108,3 @@ put_more o p w d i e z room =
     let len : length o ≡ length d = ap length e ∙ simp (length-append, length-drop) (omega arith) in
     (written o i w (omega (arith, len))).1
     ∙ rw (e, take_at p (drop i d) i z, ← drop-drop (length w) i (p ++ drop i d), drop_at p (drop i d) i z, drop-drop)
-
-pub length_put : (p d : List ℕ) (i : ℕ) → i ≡ length p → i ≤ length d → length (p ++ drop i d) ≡ length d
-length_put p d i e h = simp (length-append, length-drop) (omega arith)

@@ -8,6 +8,7 @@ use lib.ListN.{length, take, drop, get_or, length-drop}
 use lib.Seq.{take_all}
 use lib.Dec.{ltb}
 use Rattle.std.specs.Prelude.{if◌then◌else◌}
+use Rattle.refusals.specs.Numbers.{refusal_number}
 use Rattle.numbers.specs.declared.Range.{Range}
 use Rattle.numbers.specs.Number.{Reading, Read, Refused, last, more, groups, placed, read_number}
 use Rattle.numbers.specs.Field.{in_range, read_field}
@@ -52,8 +53,8 @@ placed_within m at (Refused e) l h = omega arith
 range_within : (m : ℕ) (r : Range) (x : Reading) → Within m x → Within m (in_range r x)
 unfolding in_range
 range_within m r (Read v n) h =
-    either m (ltb v r.low) (Refused r.refusal) (if ltb r.high v then Refused r.refusal else Read v n) (omega arith)
-    (either m (ltb r.high v) (Refused r.refusal) (Read v n) (omega arith) h)
+    either m (ltb v r.low) (Refused (refusal_number r.refusal)) (if ltb r.high v then Refused (refusal_number r.refusal) else Read v n) (omega arith)
+    (either m (ltb r.high v) (Refused (refusal_number r.refusal)) (Read v n) (omega arith) h)
 range_within m r (Refused e) h = h
 
 field_within : (r : Range) (s : List ℕ) (at : ℕ) → at ≤ length s → Within (length s) (read_field r s at)

@@ -1,6 +1,7 @@
 -- Document 01, "Road sheet" and "Period sheet", and document 02, Q-1, open lanes, and Q-2, the layout before these: how many numbers each
 -- has, and the range of each place.
 use Rattle.std.specs.Prelude.{ℕ, ◌+◌, ◌-◌, ◌*◌, ◌/◌, ◌%◌, min, max, List, [], ◌∷◌, get_or, length, ltb, eqb, ◌≡◌, if◌then◌else◌}
+use Rattle.refusals.specs.declared.Refusal.TheVariants.{OutOfRange, OtherRoad}
 use Rattle.numbers.specs.declared.Range.{Range}
 use Rattle.sheets.specs.declared.Layout.{Layout}
 use Rattle.sheets.specs.declared.Layout.TheVariants.{Road, Period, FirstPeriod}
@@ -10,11 +11,11 @@ use Rattle.numbers.specs.Row.{Each}
 -- low .. high, else refusal 4
 infix 70 ◌to◌
 abbrev pub ◌to◌ : ℕ → ℕ → Range
-low to high = record { low = low; high = high; refusal = 4 }
+low to high = record { low = low; high = high; refusal = OutOfRange }
 
 -- past a table's end
 abbrev pub no_range : Range
-no_range = record { low = 0; high = 0; refusal = 0 }
+no_range = record { low = 0; high = 0; refusal = OutOfRange }
 
 -- length L, lanes N, free-flow speed V, capacity C, on-ramp capacity R, off-ramp share s, off-ramp capacity F
 abbrev pub segment_table : List Range
@@ -30,7 +31,7 @@ road_range k = if ltb k 4 then get_or road_table k no_range else get_or segment_
 
 -- NS, which is the road's, else refusal 14; a road whose own NS is outside 1..64 has no period
 abbrev pub same_segments : ℕ → Range
-same_segments ns = record { low = max 1 ns; high = min ns 64; refusal = 14 }
+same_segments ns = record { low = max 1 ns; high = min ns 64; refusal = OtherRoad }
 
 -- a segment's entry in a period: ramp demand, meter rate, and open lanes, 1..N
 abbrev pub entry_table : (lanes : ℕ) → List Range

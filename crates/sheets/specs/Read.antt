@@ -1,12 +1,14 @@
 -- Document 01, "Sheets in seven-bit numbers": what reading a road or a period sheet gives (the period with document 02, Q-1, open lanes, and in
 -- the first layout, Q-2).
-use Rattle.std.specs.Prelude.{ℕ, List, [], replicate, get_or}
+use Rattle.std.specs.Prelude.{ℕ, List, [], replicate, get_or, Result, Ok, Err}
+use Rattle.refusals.specs.Numbers.{refusal_number}
+use Rattle.refusals.specs.declared.Refused.{Refused as RefusedPlace}
+use Rattle.numbers.specs.declared.reader.Row.{Row}
 use Rattle.numbers.specs.Number.{Reading, Read, Refused}
 use Rattle.numbers.specs.Field.{read_field}
 use Rattle.numbers.specs.Row.{Rows, ReadRow, RefusedAt, fields, padded_to}
 use Rattle.sheets.specs.declared.Layout.{Layout}
 use Rattle.sheets.specs.declared.Layout.TheVariants.{Road, Period, FirstPeriod}
-use Rattle.sheets.specs.declared.SheetReading.{SheetReading}
 use Rattle.sheets.specs.Layout.{road_range, range_of, count_of}
 
 -- the field at an offset, by the range of its place
@@ -37,10 +39,22 @@ read_first_period road bytes = read_row (FirstPeriod (get_or road 0 0)) road byt
 abbrev pub padded : List ℕ → List ℕ
 padded row = padded_to 452 row
 
--- the same as the code has it: "beside a refusal's number and offset, every other number returned is 0"
+-- what reading a sheet gives, in numbers: refusal is 0, or its number, with the offset of the field's first byte; used counts the bytes read
+pub record SheetReading : Type 0 where
+  pub refusal : ℕ
+  pub offset : ℕ
+  pub used : ℕ
+  pub row : List ℕ
+
+-- "beside a refusal's number and offset, every other number returned is 0"
 unfoldable pub sheet_reading : Rows → SheetReading
 sheet_reading (ReadRow row n) = record { refusal = 0; offset = 0; used = n; row = padded row }
 sheet_reading (RefusedAt e at) = record { refusal = e; offset = at; used = 0; row = replicate 452 0 }
+
+-- the same of what the code answers
+abbrev pub sheet_told : Result (Row 452) RefusedPlace → SheetReading
+sheet_told (Ok s) = record { refusal = 0; offset = 0; used = s.used; row = s.numbers }
+sheet_told (Err r) = record { refusal = refusal_number r.refusal; offset = r.offset; used = 0; row = replicate 452 0 }
 
 -- a sheet that was read, of so many bytes
 abbrev pub read_as : List ℕ → ℕ → SheetReading

@@ -6,293 +6,180 @@
 // after it is read. A buffer has ROOM bytes aa, up to 1,024, and is printed whole.
 #![tactic(auto)]
 
-use numbers::{Number, Written};
-use records::{Numbers, Record, say, say_number};
-use sheets::{Layout, SheetReading};
+use input::{CHUNK_ROOM, LINE_ROOM, Lines, STUDY_ROOM};
+use records::{FILL, Hexadecimal};
+use refusals::{Refusal, Refused};
+use sheets::{Layout, Sheet};
+use std::io;
 use std::io::Write;
-use text::Numeral;
 
-#[derive(Clone, Copy)]
-enum Call {
-    ReadNumber,
-    WriteNumber,
-    ReadRoad,
-    ReadPeriod,
-    ReadFirstPeriod,
-    WriteRoad,
-    WritePeriod,
-    Other,
+fn say_refused<W: Write>(output: &mut W, refusal: Refusal) -> io::Result<()> {
+    write!(output, "refused {refusal}")
 }
 
-// The numbers of the road that a word gives; a word that is not bytes in hexadecimal is not fine.
-#[derive(Clone, Copy)]
-struct Road {
-    fine: bool,
-    row: [u32; 452],
-}
-
-// A call that writes.
-fn writing_of(name: &[u8]) -> Call {
-    if text::same(name, b"write-number") {
-        return Call::WriteNumber;
-    }
-    if text::same(name, b"write-road") {
-        return Call::WriteRoad;
-    }
-    if text::same(name, b"write-period") {
-        return Call::WritePeriod;
-    }
-    Call::Other
-}
-
-fn call_of(name: &[u8]) -> Call {
-    if text::same(name, b"read-number") {
-        return Call::ReadNumber;
-    }
-    if text::same(name, b"read-road") {
-        return Call::ReadRoad;
-    }
-    if text::same(name, b"read-period") {
-        return Call::ReadPeriod;
-    }
-    if text::same(name, b"read-first-period") {
-        return Call::ReadFirstPeriod;
-    }
-    writing_of(name)
-}
-
-fn say_refused<W: Write>(output: &mut W, number: u8) {
-    say_number(output, b"refused ", number as u64);
-}
-
-fn say_read<W: Write>(output: &mut W, got: Number) {
-    match got {
-        Number::Value { value, next } => {
-            say_number(output, b"value ", value as u64);
-            say_number(output, b" next ", next as u64);
-        }
-        Number::Refused(number) => say_refused(output, number),
-    }
-}
-
-fn say_written<W: Write>(output: &mut W, done: Written, buffer: &[u8]) {
-    match done {
-        Written::Count(n) => say_number(output, b"count ", n as u64),
-        Written::Refused(number) => say_refused(output, number),
-    }
-    say(output, b" ");
-    records::say_bytes(output, buffer);
-}
-
-// A sheet's numbers, or its refusal and offset; a refused one that is not all zeros says so.
-fn say_sheet<W: Write>(output: &mut W, sheet: &SheetReading, count: usize) {
-    if sheet.refusal == 0 {
-        say_number(output, b"used ", sheet.used as u64);
-    } else {
-        records::say_refused(output, sheet.refusal, sheet.offset);
-    }
-    for (k, value) in sheet.row.iter().enumerate() {
-        if k < count {
-            say_number(output, b" ", *value as u64);
-        } else {
-            if *value != 0 {
-                say(output, b" not zero");
+// A sheet's numbers, or its refusal and offset; a number behind the sheet's own that is not zero is told.
+fn say_sheet<W: Write, L: Fn(u32) -> Layout>(
+    output: &mut W,
+    sheet: Result<Sheet, Refused>,
+    layout: L,
+) -> io::Result<()>
+    requires { L.IsAlwaysCallable layout }
+{
+    match sheet {
+        Ok(sheet) => {
+            let count = layout(sheet.numbers[0]).count();
+            write!(output, "used {}", sheet.used)?;
+            for value in sheet.numbers.iter().take(count) {
+                write!(output, " {value}")?;
             }
+            for _ in sheet
+                .numbers
+                .iter()
+                .skip(count)
+                .filter(|value| **value != 0)
+            {
+                write!(output, " not zero")?;
+            }
+            Ok(())
         }
+        Err(refused) => write!(output, "{refused}"),
     }
 }
 
-// The numbers to print: none of a refused sheet.
-fn shown(refusal: u8, count: usize) -> usize {
-    if refusal == 0 { count } else { 0 }
+// The numbers of a sheet that was read, zeros of one that was refused.
+fn row_of(sheet: Result<Sheet, Refused>) -> [u32; 452] {
+    sheet.map_or([0; 452], |sheet| sheet.numbers)
 }
 
-fn say_in<W: Write>(output: &mut W, layout: Layout, sheet: &SheetReading) {
-    say_sheet(output, sheet, shown(sheet.refusal, sheets::count(layout)));
+// The road that a word's bytes give; none of a word that is no bytes in hexadecimal.
+fn road_of(word: &[u8]) -> Option<[u32; 452]> {
+    let mut buffer = [0; STUDY_ROOM];
+    let bytes = records::bytes_of(word, &mut buffer)?;
+    Some(row_of(sheets::read_road(bytes)))
 }
 
-fn read_road<W: Write>(output: &mut W, bytes: &[u8]) {
-    let sheet = sheets::read_road(bytes);
-    say_in(output, Layout::Road(sheet.row[0]), &sheet);
-}
-
-fn read_period<W: Write>(output: &mut W, bytes: &[u8], road: &[u32; 452]) {
-    let sheet = sheets::read_period(bytes, road);
-    say_in(output, Layout::Period(sheet.row[0]), &sheet);
-}
-
-fn read_first_period<W: Write>(output: &mut W, bytes: &[u8], road: &[u32; 452]) {
-    let sheet = sheets::read_first_period(bytes, road);
-    say_in(output, Layout::FirstPeriod(sheet.row[0]), &sheet);
-}
-
-fn write_number<W: Write>(output: &mut W, buffer: &mut [u8], at: usize, value: u32) {
-    let done = numbers::write(buffer, at, value);
-    say_written(output, done, buffer);
-}
-
-fn write_road<W: Write>(output: &mut W, buffer: &mut [u8], at: usize, row: [u32; 452]) {
-    let done = sheets::write_road(buffer, at, row);
-    say_written(output, done, buffer);
-}
-
-fn write_period<W: Write>(output: &mut W, buffer: &mut [u8], at: usize, row: [u32; 452]) {
-    let done = sheets::write_period(buffer, at, row);
-    say_written(output, done, buffer);
-}
-
-fn say_not_a_call<W: Write>(output: &mut W) {
-    say(output, b"not a call");
-}
-
-// Writes a sheet that was read.
-fn play_sheet<W: Write>(output: &mut W, is_road: bool, sheet: &SheetReading, more: Numbers) {
-    let mut buffer = [0xAAu8; 1024];
-    let row = sheet.row;
-    let room = more.first as usize;
-    let at = more.second as usize;
-    if 1024 < room {
-        say(output, b"room above 1024");
-        return;
+// What a writing gave, and the buffer after it.
+fn say_written<W: Write>(
+    output: &mut W,
+    written: Result<usize, Refusal>,
+    buffer: &[u8],
+) -> io::Result<()> {
+    match written {
+        Ok(count) => write!(output, "count {count}")?,
+        Err(refusal) => say_refused(output, refusal)?,
     }
-    if is_road {
-        write_road(output, &mut buffer[..room], at, row);
-    } else {
-        write_period(output, &mut buffer[..room], at, row);
-    }
+    write!(output, " {}", Hexadecimal(buffer))
 }
 
-fn play_number<W: Write>(output: &mut W, word: &[u8], more: Numbers) {
-    let mut buffer = [0xAAu8; 1024];
-    let room = more.first as usize;
-    let at = more.second as usize;
-    if 1024 < room {
-        say(output, b"room above 1024");
-        return;
-    }
-    match text::number(word) {
-        Numeral::Value(value) => write_number(output, &mut buffer[..room], at, value),
-        Numeral::Other => say_not_a_call(output),
-    }
+fn read_number<W: Write>(output: &mut W, word: &[u8], rest: &[u8]) -> Option<io::Result<()>> {
+    let [place, _] = records::numbers(rest, [0, 0])?;
+    let mut buffer = [0; STUDY_ROOM];
+    let bytes = records::bytes_of(word, &mut buffer)?;
+    Some(match numbers::read(bytes, place as usize) {
+        Ok(number) => write!(output, "value {} next {}", number.value, number.next),
+        Err(refusal) => say_refused(output, refusal),
+    })
 }
 
-fn road_of(word: &[u8]) -> Road {
-    let mut bytes = input::large_buffer();
-    let given = records::bytes_of(word, &mut bytes);
-    let sheet = sheets::read_road(&bytes[..given.count]);
-    let row = sheet.row;
-    Road {
-        fine: given.fine,
-        row,
-    }
+// Writes to a filled buffer of the room and from the place that are left of a record.
+fn write_to<W: Write, F: FnOnce(&mut [u8], usize) -> Option<Result<usize, Refusal>>>(
+    output: &mut W,
+    rest: &[u8],
+    write: F,
+) -> Option<io::Result<()>>
+    requires { F.IsAlwaysCallable write }
+{
+    let [room, place] = records::numbers(rest, [0, 0])?;
+    let mut buffer = [FILL; 1024];
+    let Some(part) = buffer.get_mut(..room as usize) else {
+        return Some(write!(output, "room above 1024"));
+    };
+    let written = write(&mut *part, place as usize)?;
+    Some(say_written(output, written, part))
 }
 
-fn play_period<W: Write>(output: &mut W, call: Call, word: &[u8], road: &Road, more: Numbers) {
-    let mut bytes = input::large_buffer();
-    let given = records::bytes_of(word, &mut bytes);
-    if !(given.fine & road.fine & more.fine) {
-        say_not_a_call(output);
-        return;
-    }
-    let period = &bytes[..given.count];
-    match call {
-        Call::ReadPeriod => read_period(output, period, &road.row),
-        Call::ReadFirstPeriod => read_first_period(output, period, &road.row),
-        _ => play_sheet(output, false, &sheets::read_period(period, &road.row), more),
-    }
+fn write_number<W: Write>(output: &mut W, word: &[u8], rest: &[u8]) -> Option<io::Result<()>> {
+    write_to(output, rest, |buffer, place| {
+        Some(numbers::write(buffer, place, text::number(word)?))
+    })
 }
 
-// Plays a call on a period; behind its bytes stands the road.
-fn play_on_road<W: Write>(output: &mut W, call: Call, word: &[u8], rest: &[u8]) {
-    let given = text::next_word(rest, 0);
-    let more = records::up_to_two(&rest[given.end..], 0, 0);
-    play_period(
-        output,
-        call,
-        word,
-        &road_of(&rest[given.start..given.end]),
-        more,
-    );
+fn read_road<W: Write>(output: &mut W, word: &[u8], rest: &[u8]) -> Option<io::Result<()>> {
+    records::numbers(rest, [0, 0])?;
+    let mut buffer = [0; STUDY_ROOM];
+    let bytes = records::bytes_of(word, &mut buffer)?;
+    Some(say_sheet(output, sheets::read_road(bytes), Layout::Road))
 }
 
-fn play_bytes<W: Write>(output: &mut W, call: Call, word: &[u8], more: Numbers) {
-    let mut bytes = input::large_buffer();
-    let given = records::bytes_of(word, &mut bytes);
-    if !given.fine {
-        say_not_a_call(output);
-        return;
-    }
-    let read = &bytes[..given.count];
-    match call {
-        Call::ReadNumber => say_read(output, numbers::read(read, more.first as usize)),
-        Call::ReadRoad => read_road(output, read),
-        _ => play_sheet(output, true, &sheets::read_road(read), more),
-    }
+fn write_road<W: Write>(output: &mut W, word: &[u8], rest: &[u8]) -> Option<io::Result<()>> {
+    let mut buffer = [0; STUDY_ROOM];
+    let row = row_of(sheets::read_road(records::bytes_of(word, &mut buffer)?));
+    write_to(output, rest, |buffer, place| {
+        Some(sheets::write_sheet(buffer, place, Layout::Road(row[0]), &row))
+    })
 }
 
-// Plays a call without a road.
-fn play_call<W: Write>(output: &mut W, call: Call, word: &[u8], rest: &[u8]) {
-    let more = records::up_to_two(rest, 0, 0);
-    if !more.fine {
-        say_not_a_call(output);
-        return;
-    }
-    match call {
-        Call::WriteNumber => play_number(output, word, more),
-        Call::Other => say_not_a_call(output),
-        _ => play_bytes(output, call, word, more),
+// Reads a period of a layout; behind its bytes stands the road.
+fn read_period<W: Write, L: Fn(u32) -> Layout>(
+    output: &mut W,
+    word: &[u8],
+    rest: &[u8],
+    layout: L,
+) -> Option<io::Result<()>>
+    requires { L.IsAlwaysCallable layout }
+{
+    let (road, rest) = text::next_word(rest)?;
+    let road = road_of(road)?;
+    records::numbers(rest, [0, 0])?;
+    let mut buffer = [0; STUDY_ROOM];
+    let bytes = records::bytes_of(word, &mut buffer)?;
+    let sheet = sheets::read_sheet(bytes, layout(road[0]), &road);
+    Some(say_sheet(output, sheet, layout))
+}
+
+fn write_period<W: Write>(output: &mut W, word: &[u8], rest: &[u8]) -> Option<io::Result<()>> {
+    let (road, rest) = text::next_word(rest)?;
+    let road = road_of(road)?;
+    let mut buffer = [0; STUDY_ROOM];
+    let bytes = records::bytes_of(word, &mut buffer)?;
+    let row = row_of(sheets::read_period(bytes, &road));
+    write_to(output, rest, |buffer, place| {
+        Some(sheets::write_sheet(buffer, place, Layout::Period(row[0]), &row))
+    })
+}
+
+// Answers a record; none where it is no call.
+fn answer<W: Write>(output: &mut W, record: &[u8]) -> Option<io::Result<()>> {
+    let (name, rest) = text::next_word(record)?;
+    let (word, rest) = text::next_word(rest)?;
+    match name {
+        b"read-number" => read_number(output, word, rest),
+        b"write-number" => write_number(output, word, rest),
+        b"read-road" => read_road(output, word, rest),
+        b"write-road" => write_road(output, word, rest),
+        b"read-period" => read_period(output, word, rest, Layout::Period),
+        b"read-first-period" => read_period(output, word, rest, Layout::FirstPeriod),
+        b"write-period" => write_period(output, word, rest),
+        _ => None,
     }
 }
 
 // Plays a record, and prints its answer.
-fn play<W: Write>(output: &mut W, record: &[u8]) {
-    let name = text::next_word(record, 0);
-    let given = text::next_word(record, name.end);
-    let word = &record[given.start..given.end];
-    let rest = &record[given.end..];
-    let call = call_of(&record[name.start..name.end]);
-    match call {
-        Call::ReadPeriod | Call::ReadFirstPeriod | Call::WritePeriod => {
-            play_on_road(output, call, word, rest)
-        }
-        _ => play_call(output, call, word, rest),
-    }
-}
-
-// Plays a record of a line, and tells whether there was one.
-fn play_line<W: Write>(output: &mut W, line: &[u8], next: Record) -> bool {
-    let from = next.start;
-    let to = next.end;
-    if line.len() < to {
-        return false;
-    }
-    if to <= from {
-        return false;
-    }
-    records::say_record(output, &line[from..to]);
-    play(output, &line[from..to]);
-    say(output, b"\n");
-    true
+fn play<W: Write>(output: &mut W, record: &[u8]) -> io::Result<()> {
+    records::say_answer(
+        output,
+        record,
+        |output| answer(output, record),
+        "not a call",
+    )
 }
 
 fn main(rt: HostRuntime) {
-    let mut file = rt.stdin();
-    let mut output = rt.stdout();
-    let mut errors = rt.stderr();
-    let mut chunk = input::buffer();
-    let mut line = input::line_room();
-    let mut next = records::start();
-    for _ in 0..u64::MAX {
-        next = records::next(
-            &mut file,
-            &mut output,
-            &mut errors,
-            next,
-            &mut chunk,
-            &mut line,
-        );
-        if !play_line(&mut output, &line, next) {
-            return;
-        }
-    }
+    records::play_all(
+        &mut Lines::<_, CHUNK_ROOM>::new(&mut rt.stdin()),
+        &mut [0; LINE_ROOM],
+        &mut rt.stdout(),
+        &mut rt.stderr(),
+        |output, record| play(output, record),
+    );
 }

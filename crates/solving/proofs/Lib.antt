@@ -1,2 +1,1 @@
-pub mod Limits
-pub mod Areas
+pub mod More

@@ -1,30 +1,16 @@
 // The sections' answers in order, and what they sum up to: the facility's density and its level of service.
 #![tactic(auto)]
 
-ghost use Rattle.std.specs.Prelude.{◌≡◌, map, ◌≤◌};
+ghost use Rattle.std.specs.Prelude.{◌≡◌, ◌+◌, ◌≤◌, map, length};
 ghost use Rattle.sections.specs.Section.{outcome};
-ghost use Rattle.sections.specs.Good.{GoodSection};
-ghost use Rattle.planning_sheet.specs.Good.{GoodSections};
-ghost use Rattle.solving.specs.Facility.{density_in, queued_in, added_of, answers_of, totals_of, facility_density, letter, letter_of, told};
+ghost use Rattle.sections.specs.Numbers.{numbers_of};
+ghost use Rattle.planning_sheet.specs.View.{sections_in};
+ghost use Rattle.solving.specs.Facility.{added_of, answers_of, totals_of, facility_density, tells_within, letter_of};
 
+use letters::{Level, graded};
+use planning_sheet::list::Sections;
+use sections::answer::Answer;
 use sections::section::Section;
-use sections::{Answer, section};
-
-#[derive(Clone, Copy)]
-pub struct Done {
-    pub answer: Answer,
-}
-
-// The level of service.
-#[derive(Clone, Copy)]
-pub enum Service {
-    A,
-    B,
-    C,
-    D,
-    E,
-    F,
-}
 
 // Sums over the sections: density times area, area in lane-feet, and whether any is queued.
 #[derive(Clone, Copy)]
@@ -34,122 +20,69 @@ pub struct Totals {
     pub queued: bool,
 }
 
+impl Totals {
+    // The sums with one more section.
+    #[tactic(auto, unfolding(crate::specs::Facility::added_of))]
+    fn with(self, section: Section, answer: Answer) -> Self
+        requires { self.area ≤ 13305600 }
+        ensures value { result ≡ added_of self (numbers_of section) (outcome answer) }
+        ensures small { result.area ≤ self.area + 211200 }
+    {
+        let area = section.area();
+        Totals {
+            mass: self.mass + answer.density() * f64::from(area),
+            area: self.area + area,
+            queued: self.queued | answer.is_queued(),
+        }
+    }
+
+    // The facility's density.
+    #[tactic(auto, unfolding(crate::specs::Facility::facility_density))]
+    pub fn density(self) -> f64
+        ensures { result ≡ facility_density self }
+    {
+        self.mass / f64::from(self.area)
+    }
+}
+
 // The answers, free with zeros past the section count, and their sums.
 #[derive(Clone, Copy)]
 pub struct Solved {
-    pub answers: [Done; 64],
+    pub answers: [Answer; 64],
     pub totals: Totals,
 }
 
-fn density_in(a: Answer) -> f64
-    ensures { result ≡ density_in (outcome a) }
+// The sections' answers under their demands.
+pub fn solve(sections: &Sections, demands: &[u32; 64]) -> Solved
+    ensures { (map outcome result.answers ≡ answers_of (sections_in sections.now) demands.now)
+        × (result.totals ≡ totals_of (sections_in sections.now) demands.now (length (sections_in sections.now))) }
 {
-    match a {
-        Answer::Free { speed: _, density } => density,
-        Answer::Slowed {
-            under: _,
-            speed: _,
-            density,
-        } => density,
-        Answer::Queued {
-            under: _,
-            over: _,
-            speed: _,
-            density,
-        } => density,
-    }
-}
-
-fn queued_in(a: Answer) -> bool
-    ensures { result ≡ queued_in (outcome a) }
-{
-    match a {
-        Answer::Free {
-            speed: _,
-            density: _,
-        } => false,
-        Answer::Slowed {
-            under: _,
-            speed: _,
-            density: _,
-        } => false,
-        Answer::Queued {
-            under: _,
-            over: _,
-            speed: _,
-            density: _,
-        } => true,
-    }
-}
-
-// The sums with one more section.
-fn added(t: Totals, s: Section, a: Answer) -> Totals
-    requires { (t.area ≤ 13305600) × GoodSection s }
-    ensures { result ≡ added_of t s (outcome a) }
-{
-    let area = s.length * s.lanes;
-    let k = density_in(a);
-    let q = queued_in(a);
-    Totals {
-        mass: t.mass + k * area as f64,
-        area: t.area + area,
-        queued: t.queued | q,
-    }
-}
-
-// The answers of n sections under their demands.
-pub fn solve(n: usize, row: [u32; 384], each: [u32; 64]) -> Solved
-    requires { (n ≤ 64) × GoodSections n row }
-    ensures { (map told result.answers ≡ answers_of n row each) × (result.totals ≡ totals_of n row each n) }
-{
-    let mut answers = [Done {
-        answer: Answer::Free {
-            speed: 0.0,
-            density: 0.0,
-        },
-    }; 64];
+    let mut answers = [Answer::none(); 64];
     let mut totals = Totals {
         mass: 0.0,
         area: 0,
         queued: false,
     };
-    let mut i: usize = 0;
-    while i < n {
-        let s = planning_sheet::section_at(n, row, i);
-        let a = section::answer(s, each[i]);
-        totals = added(totals, s, a);
-        answers[i] = Done { answer: a };
-        i += 1;
+    for i in 0..sections.count() {
+        let section = sections.at(i);
+        let answer = section.answer(demands[i]);
+        totals = totals.with(section, answer);
+        answers[i] = answer;
     }
     Solved { answers, totals }
 }
 
-pub fn density(t: Totals) -> f64
-    ensures { result ≡ facility_density t }
-{
-    t.mass / t.area as f64
-}
-
-pub fn service_of(density: f64, queued: bool) -> Service
-    ensures { letter result ≡ letter_of density queued }
+// The level of service at a density, F where any section is queued.
+#[tactic(auto, unfolding(crate::specs::Facility::letter_of))]
+pub fn service_of(density: f64, queued: bool) -> Level
+    ensures { result ≡ letter_of density queued }
 {
     if queued {
-        return Service::F;
+        return Level::F;
     }
-    if density <= 11.0 {
-        return Service::A;
-    }
-    if density <= 18.0 {
-        return Service::B;
-    }
-    if density <= 26.0 {
-        return Service::C;
-    }
-    if density <= 35.0 {
-        return Service::D;
-    }
-    if density <= 45.0 {
-        return Service::E;
-    }
-    Service::F
+    graded(
+        |limit: u8| -> bool
+            ensures { result ≡ tells_within density limit }
+        { density <= f64::from(limit) },
+    )
 }

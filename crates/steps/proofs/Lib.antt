@@ -1,5 +1,4 @@
 pub mod Sums
-pub mod CellRow
 pub mod Laws
 pub mod Balance
 pub mod Bounds

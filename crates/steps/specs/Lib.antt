@@ -1,4 +1,3 @@
 pub mod Step
 pub mod Claims
-pub mod CellRow
 pub mod Bounded

@@ -1,17 +1,16 @@
--- The numbers of a forecast, as they are put into `out`: the first eight, then three for each line.
-use Prim.Native.Nat.{ℕ, zero, suc, ◌+◌, ◌*◌, ◌≤◌, ◌<◌}
-use mathlib.Core.Path.{◌≡◌, refl, sym, ap, ◌∙◌}
-use mathlib.Core.List.{List, [], ◌∷◌, ◌++◌}
-use native.Mathlib.Omega.{arith}
-use lib.ListN.{length, take, drop, get_or, set, take-append-drop, length-append}
-use lib.Seq.{drop-drop, take_at, drop_at, take_all, length-take-le, sets-eq}
+-- The numbers of a forecast: the first eight, then three for each line.
+use Rattle.std.proofs.Common.{◌≡◌, ℕ, zero, suc, ◌+◌, ◌*◌, ◌≤◌, ◌<◌, refl, sym, ap, ◌∙◌, List, [], ◌∷◌, ◌++◌, length, drop, get_or, set, replicate, slice_index_or, arith, append-nil, Option, Ok}
+use Rattle.std.specs.Prelude.{map}
+use Rattle.std.proofs.lemmas.List.{length-map}
+use lib.Seq.{drop-drop, take_all}
 use borrow.Author.Tests.{lt-ltb, le-ltb}
 use Rattle.numbers.proofs.Stores.{stored_to, store_rest, store_more}
 use Rattle.facility.specs.Ledger.{Rules, present}
-use Rattle.study.specs.declared.Line.{Line}
-use Rattle.study.specs.declared.Listing.{Listing}
-use Rattle.study.specs.Forecast.{no_line, listed, refused_listing, Outcome, Ended, RefusedStudy, listing, outcome_by, forecast_by, forecast_of}
+use Rattle.study.specs.declared.shown.Line.{Line as SegmentLine}
+use Rattle.study.specs.declared.shown.Listing.{Listing as Shown}
+use Rattle.study.specs.Forecast.{Line, Listing, listed, refused_listing, Outcome, Ended, RefusedStudy, listing, outcome_by, forecast_by, forecast_of}
 use Rattle.study.specs.Export.{line_numbers, listing_numbers, room, export_answer, export_into}
+use Rattle.study.specs.Shown.{line_shown, told}
 use Rattle.study.proofs.Lines.{lines_length}
 
 -- ---- every forecast has 64 lines, and so 200 numbers
@@ -20,7 +19,7 @@ unfolding listed refused_listing
 outcome_lines rules (Ended b) = lines_length _ _
 outcome_lines rules (RefusedStudy number place) = refl
 
-pub forecast_lines : (bytes : List ℕ) → length (forecast_of bytes).lines ≡ 64
+forecast_lines : (bytes : List ℕ) → length (forecast_of bytes).lines ≡ 64
 unfolding forecast_by
 forecast_lines bytes = outcome_lines present (outcome_by present bytes)
 
@@ -34,14 +33,14 @@ unfolding listing_numbers
 two_hundred bytes = omega (arith, line_count (forecast_of bytes).lines, forecast_lines bytes)
 
 -- ---- a line more
-line_at : (ls : List Line) (i : ℕ) → i < length ls
-    → drop (3 * i) (line_numbers ls) ≡ (get_or ls i no_line).n ∷ (get_or ls i no_line).q ∷ (get_or ls i no_line).letter ∷ line_numbers (drop (suc i) ls)
+line_at : (ls : List (Option SegmentLine)) (i : ℕ) (d : Option SegmentLine) → i < length ls
+    → let l = line_shown (get_or ls i d) in drop (3 * i) (line_numbers (map line_shown ls)) ≡ l.n ∷ l.q ∷ l.letter ∷ line_numbers (map line_shown (drop (suc i) ls))
 unfolding line_numbers
-line_at [] i h = absurd (omega arith)
-line_at (l ∷ ls) zero h = refl
-line_at (l ∷ ls) (suc i) h =
+line_at [] i d h = absurd (omega arith)
+line_at (l ∷ ls) zero d h = refl
+line_at (l ∷ ls) (suc i) d h =
     let e : 3 * suc i ≡ suc (suc (suc (3 * i))) = omega arith in
-    rw e (line_at ls i (omega arith))
+    rw e (line_at ls i d (omega arith))
 
 three_more : (w d : List ℕ) (k x y z : ℕ) (rest : List ℕ) → drop k w ≡ x ∷ y ∷ z ∷ rest → length w ≤ length d
     → set (set (set (stored_to w d k) k x) (k + 1) y) (k + 2) z ≡ stored_to w d (k + 3)
@@ -56,68 +55,42 @@ three_more w d k x y z rest e fits =
     ap (λ (l : List ℕ). set (set l (k + 1) y) (k + 2) z) more1 ∙ ap (λ (l : List ℕ). set l (k + 2) z) more2
     ∙ store_more w (k + 2) z rest next d fits ∙ ap (stored_to w d) at3
 
--- the first eight as they are, and the lines behind them
-abbrev pub all : List ℕ → List Line → List ℕ
-all out lines = take 8 out ++ line_numbers lines
+module _ (x : Shown) where
+  -- the first numbers of x as they are, and zeros behind them
+  abbrev pub put_to : ℕ → List ℕ
+  put_to k = stored_to (listing_numbers (told (Ok x))) (replicate 200 0) k
 
-module _ (out : List ℕ) (lines : List Line) (full : length lines ≡ 64) (enough : 200 ≤ length out) where
-  head_length : length (take 8 out) ≡ 8
-  head_length = length-take-le 8 out (omega arith)
+  all_length : length (listing_numbers (told (Ok x))) ≡ 200
+  unfolding listing_numbers
+  all_length = omega (arith, line_count (map line_shown x.lines), length-map x.lines line_shown, x.room)
 
-  all_length : length (all out lines) ≡ 200
-  all_length = rw length-append (omega (arith, head_length, line_count lines))
-
-  pub put_none : out ≡ stored_to (all out lines) out (8 + 3 * 0)
-  put_none =
-      sym (ap (λ (l : List ℕ). l ++ drop 8 out) (take_at (take 8 out) (line_numbers lines) 8 head_length) ∙ take-append-drop 8 out)
-
-  pub put_more : (i : ℕ) → i < 64 → (now : List ℕ) → now ≡ stored_to (all out lines) out (8 + 3 * i)
-      → set (set (set now (8 + 3 * i) (get_or lines i no_line).n) (8 + 3 * i + 1) (get_or lines i no_line).q) (8 + 3 * i + 2) (get_or lines i no_line).letter
-      ≡ stored_to (all out lines) out (8 + 3 * (i + 1))
-  put_more i h now e =
+  pub put_more : (i : ℕ) (d : Option SegmentLine) → i < 64
+      → let k = 8 + 3 * i in let l = line_shown (get_or x.lines i d) in
+      set (set (set (put_to k) k l.n) (k + 1) l.q) (k + 2) l.letter ≡ put_to (8 + 3 * (i + 1))
+  unfolding listing_numbers
+  put_more i d h =
       let k = 8 + 3 * i in
-      let w = all out lines in
-      let behind : drop 8 w ≡ line_numbers lines = drop_at (take 8 out) (line_numbers lines) 8 head_length in
-      let next = sym (drop-drop (3 * i) 8 w) ∙ ap (drop (3 * i)) behind ∙ line_at lines i (omega arith) in
+      let w = listing_numbers (told (Ok x)) in
+      let next = sym (drop-drop (3 * i) 8 w) ∙ line_at x.lines i d (omega (arith, x.room)) in
       let end : k + 3 ≡ 8 + 3 * (i + 1) = omega arith in
-      ap (λ (l : List ℕ). set (set (set l k (get_or lines i no_line).n) (k + 1) (get_or lines i no_line).q) (k + 2) (get_or lines i no_line).letter) e
-      ∙ three_more w out k _ _ _ _ next (omega (arith, all_length))
-      ∙ ap (stored_to w out) end
+      three_more w (replicate 200 0) k _ _ _ _ next (omega (arith, all_length)) ∙ ap put_to end
 
-  pub put_all : stored_to (all out lines) out 200 ≡ all out lines ++ drop 200 out
-  put_all = ap (λ (l : List ℕ). l ++ drop 200 out) (take_all 200 (all out lines) (omega (arith, all_length)))
-
--- the lines put behind the totals are all the numbers
-pub put_both : (x : Listing) (out first : List ℕ) → 200 ≤ length out → first ≡ take 8 (listing_numbers x) ++ drop 8 out
-    → all first x.lines ++ drop 200 first ≡ listing_numbers x ++ drop 200 out
-unfolding listing_numbers
-put_both x out first enough e =
-    let front : take 8 first ≡ take 8 (listing_numbers x) = ap (take 8) e ∙ take_at (take 8 (listing_numbers x)) (drop 8 out) 8 refl in
-    let back : drop 200 first ≡ drop 200 out =
-    sym (drop-drop 192 8 first) ∙ ap (drop 192) (ap (drop 8) e ∙ drop_at (take 8 (listing_numbers x)) (drop 8 out) 8 refl) ∙ drop-drop 192 8 out in
-    ap (λ (l : List ℕ). (l ++ line_numbers x.lines) ++ drop 200 first) front ∙ ap (λ (l : List ℕ). listing_numbers x ++ l) back
-
--- the first eight, stored one by one
-pub put_eight : (x : Listing) (out : List ℕ) (number segments origin : ℕ) → 8 ≤ length out → number ≡ x.refusal → segments ≡ x.segments → origin ≡ x.origin
-    → set (set (set (set (set (set (set (set out 0 number) 1 x.place) 2 segments) 3 x.arrived) 4 x.left) 5 x.stored) 6 x.partsteps) 7 origin
-    ≡ take 8 (listing_numbers x) ++ drop 8 out
-unfolding listing_numbers
-put_eight x out number segments origin enough a b c =
-    sets-eq (number ∷ x.place ∷ segments ∷ x.arrived ∷ x.left ∷ x.stored ∷ x.partsteps ∷ origin ∷ []) out 0 (omega arith) ∙ rw (a, b, c)
-
-pub stored_three : (out : List ℕ) (k : ℕ) {a b c x y z : ℕ} → a ≡ x → b ≡ y → c ≡ z
-    → set (set (set out k a) (k + 1) b) (k + 2) c ≡ set (set (set out k x) (k + 1) y) (k + 2) z
-stored_three out k p q r = rw (p, q, r)
+  pub put_all : put_to 200 ≡ listing_numbers (told (Ok x))
+  put_all = ap (λ (m : List ℕ). m ++ []) (take_all 200 (listing_numbers (told (Ok x))) (omega (arith, all_length))) ∙ append-nil _
 
 -- ---- the export
 pub too_short : (study out : List ℕ) → length out < room → (7 ≡ export_answer study out) × (out ≡ export_into study out)
 unfolding export_answer export_into
 too_short study out h = rw (lt-ltb (length out) room h) (refl, refl)
 
-pub filled : (study out : List ℕ) → room ≤ length out → (x : Listing) → x ≡ forecast_of study → (first last : List ℕ) (n : ℕ)
-    → first ≡ take 8 (listing_numbers x) ++ drop 8 out → last ≡ all first x.lines ++ drop 200 first → n ≡ x.refusal
-    → (n ≡ export_answer study out) × (last ≡ export_into study out)
+-- the first number is the refusal
+first_number : (x : Listing) → slice_index_or (listing_numbers x) 0 0 ≡ x.refusal
+unfolding listing_numbers
+first_number x = refl
+
+pub filled : (study out numbers front : List ℕ) → room ≤ length out → numbers ≡ listing_numbers (forecast_of study) → front ≡ numbers
+    → (slice_index_or numbers 0 0 ≡ export_answer study out) × (front ++ drop room out ≡ export_into study out)
 unfolding export_answer export_into
-filled study out enough x is first last n p q r =
-    let same = ap (λ (y : Listing). listing_numbers y ++ drop room out) is in
-    rw (le-ltb (length out) room enough) (r ∙ ap (λ (y : Listing). y.refusal) is, q ∙ put_both x out first enough p ∙ same)
+filled study out numbers front enough is same =
+    rw (le-ltb (length out) room enough)
+    (ap (λ (l : List ℕ). slice_index_or l 0 0) is ∙ first_number (forecast_of study), ap (λ (l : List ℕ). l ++ drop room out) (same ∙ is))

@@ -1,59 +1,84 @@
 -- A study on its way: the facility shows a book of the ledger, and the rest of the forecast is the one from that book on.
 use Prim.Native.Nat.{ℕ, zero, suc, ◌+◌, ◌-◌, ◌≤◌, ◌<◌}
 use mathlib.Core.Bool.{Bool, true, false, ◌&&◌}
-use mathlib.Core.Path.{◌≡◌, refl, sym, ap, ◌∙◌}
+use mathlib.Core.Path.{◌≡◌, refl, sym, ap, subst, ◌∙◌}
 use mathlib.Core.List.{List}
 use native.Mathlib.Omega.{arith}
 use lib.ListN.{length, drop, length-drop}
-use lib.Dec.{leb, ltb}
-use borrow.Author.Tests.{lt-ltb, le-ltb, eq-eqb, ne_eqb}
-use Rattle.std.specs.Prelude.{if◌then◌else◌}
+use lib.Dec.{leb, ltb, eqb}
+use borrow.Author.Tests.{lt-ltb, le-ltb, eq-eqb, ne_eqb, eqb-true}
+use Rattle.std.specs.Prelude.{if◌then◌else◌, Result, Ok, Err}
+use Rattle.refusals.specs.declared.Refusal.{Refusal}
+use Rattle.refusals.specs.declared.Refused.{Refused as RefusedCall}
+use Rattle.refusals.specs.Numbers.{refusal_number}
+use Rattle.numbers.proofs.Refusals.{refusal_named}
 use Rattle.parts.proofs.Good.{good_road, read_road_allowed}
 use Rattle.numbers.specs.Row.{Rows, ReadRow, RefusedAt}
 use Rattle.sheets.specs.Read.{read_road, read_period, padded}
 use Rattle.sheets.proofs.Refusals.{road_refusal}
 use Rattle.conditions.specs.Conditions.{segments}
 use Rattle.door.specs.declared.Facility.{Facility}
-use Rattle.facility.specs.declared.Reply.{Reply}
 use Rattle.door.specs.Sound.{sound}
-use Rattle.facility.specs.Calls.{laid_by, lay_of, take_of, run_of}
-use Rattle.facility.specs.Ledger.{Take, Run, Answer, Refused, Taken, Ran, Reported, Summed, Book, Rules, present, take_by, opened, taken_as, with_row, ran_as, with_run, answer_by, after_by, answer, after}
+use Rattle.facility.specs.Calls.{Reply, refused, done, taken_by, laid_by, lay_of, take_of, run_of}
+use Rattle.facility.specs.Results.{replied}
+use Rattle.facility.specs.Ledger.{Take, Run, Answer, Refused, Taken, Ran, Book, Rules, present, take_by, opened, taken_as, with_row, ran_as, with_run, answer_by, after_by, answer, after}
 use Rattle.facility.specs.Verdicts.{Verdict, GoesOn, unfinished, take_verdict, run_verdict}
 use Rattle.facility.proofs.Verdicts.{run_goes}
 use Rattle.facility.specs.View.{view}
-use Rattle.facility.specs.Answers.{take_says}
+use Rattle.facility.specs.Answers.{take_says, run_says}
 use Rattle.facility.proofs.Trail.{KeptBook, kept_opened, kept_after}
 use Rattle.facility.proofs.OneCall.{view_opened, sound_view, takes, runs}
 use Rattle.facility.proofs.Lists.{run_keeps}
 use Rattle.study.specs.Forecast.{refused_listing, Ended, listing, after_sheet, whole, whole_period, periods, on_road, outcome_by, forecast_by, forecast_of}
-use Rattle.study.specs.Shown.{shown}
+use Rattle.study.specs.Shown.{TakenAt, shown, told}
 use Rattle.sheets.proofs.Within.{RowWithin, road_within, period_within}
 use Rattle.study.proofs.Lines.{shows}
 
--- ---- the ledger's taking and running
--- what a taking used, or the offset of its refusal, is at most m
-abbrev AnswerWithin : ℕ → Answer → Type 0
-AnswerWithin m (Taken used) = used ≤ m
-AnswerWithin m (Refused number offset) = offset ≤ m
-AnswerWithin m Ran = 0 ≤ m
-AnswerWithin m (Reported figures level) = 0 ≤ m
-AnswerWithin m (Summed arrived left stored partsteps) = 0 ≤ m
+-- ---- a taking stays within its bytes: what it used, and the offset of its refusal
+ReplyWithin : ℕ → Reply → Type 0
+ReplyWithin m r = (r.used ≤ m) × (r.offset ≤ m)
 
-read_within : (m : ℕ) (r : Rows) → RowWithin m r → AnswerWithin m (taken_as r)
-read_within m (ReadRow row used) h = h
-read_within m (RefusedAt number offset) h = h
+rows_within : (m : ℕ) (f : Facility) (r : Rows) → RowWithin m r → ReplyWithin m (taken_by f r)
+unfolding ReplyWithin
+rows_within m f (ReadRow row used) h = (h, omega arith)
+rows_within m f (RefusedAt number offset) h = (omega arith, h)
 
 verdict_within : (m : ℕ) (r : Rows) (x y : Bool) → RowWithin m r → RowWithin m (if x then RefusedAt 12 0 else if y then RefusedAt 13 0 else r)
 verdict_within m r true y h = omega arith
 verdict_within m r false true h = omega arith
 verdict_within m r false false h = h
 
-take_within : (b : Book) (s : List ℕ) → AnswerWithin (length s) (answer b (Take s))
-unfolding take_verdict
-take_within b s =
-    read_within (length s) (take_by present b s)
-    (verdict_within (length s) (read_period b.road s) (unfinished b.taken b.made) (leb 96 b.taken) (period_within b.road s))
+unless_within : (m : ℕ) (f : Facility) (t : Bool) (r : Reply) → ReplyWithin m r → ReplyWithin m (if t then r else refused f 9 0)
+unfolding ReplyWithin
+unless_within m f true r h = h
+unless_within m f false r h = (omega arith, omega arith)
 
+take_within : (f : Facility) (bytes : List ℕ) → ReplyWithin (length bytes) (take_of f bytes)
+unfolding take_of take_verdict
+take_within f bytes =
+    let m = length bytes in
+    let read = read_period f.road bytes in
+    unless_within m f (sound f) _ (rows_within m f _ (verdict_within m read (unfinished f.taken f.made) (leb 96 f.taken) (period_within f.road bytes)))
+
+-- a taking at a place of the bytes, by its places in them
+pub taken_end : (f : Facility) (bytes : List ℕ) (at used : ℕ) (next : Facility) → at ≤ length bytes → done used next ≡ take_of f (drop at bytes)
+    → TakenAt bytes at (Ok (at + used)) next (take_of f (drop at bytes))
+unfolding ReplyWithin
+taken_end f bytes at used next h e =
+    let within = (rw (← e) at (take_within f (drop at bytes))).0 in
+    let less : at + used - at ≡ used = omega arith in
+    (omega arith, omega (arith, within, length-drop at bytes, h), rw less e)
+
+pub refused_place : (f : Facility) (bytes : List ℕ) (at number offset : ℕ) (next : Facility) → refused next number offset ≡ take_of f (drop at bytes)
+    → (at ≤ at + offset) × (refused next number (at + offset - at) ≡ take_of f (drop at bytes))
+refused_place f bytes at number offset next e = let less : at + offset - at ≡ offset = omega arith in (omega arith, rw less e)
+
+pub place_within : (f : Facility) (bytes : List ℕ) (at number offset : ℕ) (next : Facility) → at ≤ length bytes → refused next number offset ≡ take_of f (drop at bytes)
+    → at + offset ≤ length bytes
+unfolding ReplyWithin
+place_within f bytes at number offset next h e = omega (arith, (rw (← e) at (take_within f (drop at bytes))).1, length-drop at bytes, h)
+
+-- ---- the ledger's taking and running
 -- a sheet that is taken is counted, with no step made under it
 Begun : Book → Book → Type 0
 Begun b next = (next.taken ≡ b.taken + 1) × (next.made ≡ 0)
@@ -127,10 +152,22 @@ not_laid_by : (bytes : List ℕ) (r : Rows) (laid : Reply) → laid ≡ laid_by 
 not_laid_by bytes (ReadRow row used) laid is n = absurd (n (ap (λ (q : Reply). q.refusal) is))
 not_laid_by bytes (RefusedAt number offset) laid is n = ap (λ (q : Reply). refused_listing q.refusal q.offset) is
 
+pub begins_at : (bytes : List ℕ) (answer : Result ℕ RefusedCall) (f : Facility) (at : ℕ) → answer ≡ Ok at → replied answer f ≡ lay_of bytes → Turn bytes f at
+begins_at bytes (Ok n) f at e h = let same : n ≡ at = cc in subst (Turn bytes f) same (begins bytes (done n f) h refl)
+begins_at bytes (Err r) f at e h = cc
+
 pub not_begun : (bytes : List ℕ) (laid : Reply) → laid ≡ lay_of bytes → (laid.refusal ≡ 0 → ⊥)
     → refused_listing laid.refusal laid.offset ≡ forecast_of bytes
 unfolding lay_of outcome_by forecast_by
 not_begun bytes laid is n = not_laid_by bytes (read_road bytes) laid is n
+
+pub not_laid : (bytes : List ℕ) (answer : Result ℕ RefusedCall) (f : Facility) (e : RefusedCall) → answer ≡ Err e → replied answer f ≡ lay_of bytes
+    → told (Err e) ≡ forecast_of bytes
+not_laid bytes (Ok n) f e h k = cc
+not_laid bytes (Err r) f e h k =
+    let same : r ≡ e = cc in
+    ap (λ (x : RefusedCall). told (Err x)) (sym same)
+    ∙ not_begun bytes (refused f (refusal_number r.refusal) r.offset) k (λ z. omega (arith, refusal_named r.refusal))
 
 -- a sheet more is looked at while the bytes go on, and none where they end
 pub sheet_by_lem : (rules : Rules) (most : ℕ) (b : Book) (bytes : List ℕ) (at : ℕ) → 0 < most → at < length bytes
@@ -149,6 +186,13 @@ pub end_by : (rules : Rules) (most : ℕ) (b : Book) (bytes : List ℕ) (at : �
 unfolding periods
 end_by rules zero b bytes at h = refl
 end_by rules (suc most) b bytes at h = rw (le-ltb at (length bytes) h)
+
+ran_by_test : (t : Bool) (r : Reply) → eqb r.refusal 0 ≡ t → (if t then Ran else Refused r.refusal r.offset) ≡ Ran → r.refusal ≡ 0
+ran_by_test true r e h = eqb-true r.refusal 0 e
+ran_by_test false r e h = cc
+
+says_ran : (r : Reply) → run_says r ≡ Ran → r.refusal ≡ 0
+says_ran r h = ran_by_test (eqb r.refusal 0) r refl h
 
 module _ (bytes : List ℕ) (f : Facility) (at : ℕ) (p : Turn bytes f at) where
   pub turn_sound : (sound f ≡ true) × (segments f.road ≤ 64)
@@ -169,29 +213,24 @@ module _ (bytes : List ℕ) (f : Facility) (at : ℕ) (p : Turn bytes f at) wher
     said : take_says r ≡ answer p.book (Take (drop at bytes))
     said = ap take_says took ∙ (takes p.book (drop at bytes) p.kept).0
 
-    told : outcome_by present bytes ≡ after_sheet (take_says r) at (periods present (p.most - 1) (whole_period present p.book (drop at bytes)) bytes)
-    told =
+    turns : outcome_by present bytes ≡ after_sheet (take_says r) at (periods present (p.most - 1) (whole_period present p.book (drop at bytes)) bytes)
+    turns =
         p.rest ∙ sheet_by_lem present p.most p.book bytes at (omega (arith, p.count, p.kept.few)) inside
         ∙ ap (λ (a : Answer). after_sheet a at (periods present (p.most - 1) (whole_period present p.book (drop at bytes)) bytes)) (sym said)
 
-    said_within : AnswerWithin (length bytes - at) (take_says r)
-    said_within = rw (said, ← (length-drop at bytes)) (take_within p.book (drop at bytes))
-
     module _ (n : r.refusal ≡ 0 → ⊥) where
       -- a refused sheet: its place
-      pub place_within : at + r.offset ≤ length bytes
-      place_within = omega (arith, rw (ne_eqb r.refusal 0 n) at said_within)
-
       pub refuses : refused_listing r.refusal (at + r.offset) ≡ forecast_of bytes
       unfolding forecast_by
-      refuses = sym (ap (listing present) (rw (ne_eqb r.refusal 0 n) at told))
+      refuses = sym (ap (listing present) (rw (ne_eqb r.refusal 0 n) at turns))
 
     module _ (z : r.refusal ≡ 0) where
       taken : answer p.book (Take (drop at bytes)) ≡ Taken r.used
       taken = sym (rw (eq-eqb r.refusal 0 z) at said)
 
-      pub next_within : at + r.used ≤ length bytes
-      next_within = omega (arith, rw (eq-eqb r.refusal 0 z) at said_within)
+      next_within : at + r.used ≤ length bytes
+      unfolding ReplyWithin
+      next_within = omega (arith, (rw (← gave) at (take_within f (drop at bytes))).0, length-drop at bytes)
 
       -- the period run whole
       module _ (ran : Reply) (runs-it : ran ≡ run_of r.facility whole) where
@@ -207,6 +246,16 @@ module _ (bytes : List ℕ) (f : Facility) (at : ℕ) (p : Turn bytes f at) wher
         taken_next =
             run_keeps present (λ b. b.taken) (after p.book (Take (drop at bytes))) whole refl ∙ (begun present p.book (drop at bytes) r.used taken).0
 
+        -- it is never refused
+        not_refused : ran.refusal ≡ 0
+        not_refused =
+            let b = after p.book (Take (drop at bytes)) in
+            let begins : r.facility ≡ view b = ap (λ (q : Reply). q.facility) took ∙ (takes p.book (drop at bytes) p.kept).1 in
+            let says : run_says ran ≡ Ran =
+            ap run_says (runs-it ∙ ap (λ (g : Facility). run_of g whole) begins)
+            ∙ (runs b whole (kept_after p.book (Take (drop at bytes)) p.kept)).0 ∙ run_whole present p.book (drop at bytes) r.used taken in
+            says_ran ran says
+
         pub one_taken : ran.facility.taken ≡ f.taken + 1
         one_taken =
             ap (λ (g : Facility). g.taken) view_next ∙ taken_next ∙ ap (λ (g : Facility). g.taken + 1) (sym p.view)
@@ -220,8 +269,29 @@ module _ (bytes : List ℕ) (f : Facility) (at : ℕ) (p : Turn bytes f at) wher
           most = p.most - 1;
           count = omega (arith, p.count, p.kept.few, taken_next);
           up_to = next_within;
-          rest = rw (eq-eqb r.refusal 0 z) at told;
+          rest = rw (eq-eqb r.refusal 0 z) at turns;
         }
 
   pub few_taken : f.taken ≤ 96
   few_taken = rw p.view p.kept.few
+
+  -- ---- by the places in the bytes
+  module _ (inside : at < length bytes) where
+    pub refuses_at : (e : RefusedCall) (g : Facility) → TakenAt bytes at (Err e) g (take_of f (drop at bytes)) → told (Err e) ≡ forecast_of bytes
+    refuses_at e g (h, gave) =
+        let back : at + (e.offset - at) ≡ e.offset = omega arith in
+        ap (refused_listing (refusal_number e.refusal)) (sym back)
+        ∙ refuses inside (refused g (refusal_number e.refusal) (e.offset - at)) gave (λ z. omega (arith, refusal_named e.refusal))
+
+    module _ (end : ℕ) (g : Facility) (taken-at : TakenAt bytes at (Ok end) g (take_of f (drop at bytes))) (next : Facility) where
+      pub taken_more : done 0 next ≡ run_of g whole → next.taken ≡ f.taken + 1
+      taken_more e = one_taken inside (done (end - at) g) taken-at.2 refl (done 0 next) e
+
+      pub turns_on : done 0 next ≡ run_of g whole → Turn bytes next end
+      turns_on e =
+          let back : at + (end - at) ≡ end = omega (arith, taken-at.0) in
+          subst (Turn bytes next) back (goes_on inside (done (end - at) g) taken-at.2 refl (done 0 next) e)
+
+      -- the period's run is never refused
+      pub runs_whole : (r : Refusal) → refused next (refusal_number r) 0 ≡ run_of g whole → ⊥
+      runs_whole r e = omega (arith, refusal_named r, not_refused inside (done (end - at) g) taken-at.2 refl (refused next (refusal_number r) 0) e)

@@ -1,8 +1,6 @@
 -- A forecast as 200 numbers, in the order of the header, for programs in C and Rust: no rule of document 01.
 use Rattle.std.specs.Prelude.{ℕ, List, [], ◌∷◌, ◌++◌, length, drop, ltb, if◌then◌else◌}
-use Rattle.study.specs.declared.Line.{Line}
-use Rattle.study.specs.declared.Listing.{Listing}
-use Rattle.study.specs.Forecast.{forecast_of}
+use Rattle.study.specs.Forecast.{Line, Listing, forecast_of}
 
 -- n, q and the letter of each line
 unfoldable pub line_numbers : List Line → List ℕ

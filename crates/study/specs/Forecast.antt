@@ -7,8 +7,24 @@ use Rattle.conditions.specs.Conditions.{segments}
 use Rattle.steps.specs.Step.{replaced, stored_of}
 use Rattle.letters.specs.Level.{letter_byte}
 use Rattle.facility.specs.Ledger.{Take, Run, Report, Answer, Refused, Taken, Ran, Reported, Summed, state_after, arrived_in, left_in, partsteps_in, Book, opened, Rules, present, answer_by, after_by}
-use Rattle.study.specs.declared.Line.{Line}
-use Rattle.study.specs.declared.Listing.{Listing}
+
+-- a segment's line: n, q and the byte of the level letter
+pub record Line : Type 0 where
+  pub n : ℕ
+  pub q : ℕ
+  pub letter : ℕ
+
+-- all that the listing shows, or a refusal's number with its place in the file
+pub record Listing : Type 0 where
+  pub refusal : ℕ
+  pub place : ℕ
+  pub segments : ℕ
+  pub arrived : ℕ
+  pub left : ℕ
+  pub stored : ℕ
+  pub partsteps : ℕ
+  pub origin : ℕ
+  pub lines : List Line
 
 -- past the last segment, and beside a refusal
 abbrev pub no_line : Line

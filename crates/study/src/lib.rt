@@ -1,199 +1,85 @@
 // A whole study: from the bytes of its file to everything the listing shows.
 #![tactic(auto)]
 
-ghost use Rattle.std.specs.Prelude.{◌≡◌, true, ◌+◌, ◌≤◌, ◌<◌, ◌++◌, length, take, drop, set};
+mod export;
+mod shown;
+
+ghost use Rattle.std.specs.Prelude.{◌≡◌, true, ◌≤◌, ◌<◌, length, drop, map};
 ghost use Rattle.conditions.specs.Conditions.{segments};
 ghost use Rattle.door.specs.Sound.{sound};
-ghost use Rattle.study.specs.Forecast.{lines_by, refused_listing, forecast_of};
-ghost use Rattle.study.specs.Export.{line_numbers, listing_numbers, export_answer, export_into};
-ghost use Rattle.study.specs.Shown.{line_at, shown};
+ghost use Rattle.facility.specs.Calls.{take_of};
+ghost use Rattle.study.specs.Forecast.{lines_by, forecast_of};
+ghost use Rattle.study.specs.Shown.{TakenAt, line_at, line_shown, shown, told};
 
 use door::Facility;
+pub use export::freeway_forecast;
+use facility::Laid;
+use refusals::Refused;
+pub use shown::{Line, Listing};
 
-// A segment's line of the listing: n, q and the byte of the level letter.
-#[derive(Clone, Copy)]
-pub struct Line {
-    pub n: u32,
-    pub q: u32,
-    pub letter: u8,
-}
-
-// What the listing shows, or a refusal's number with its place in the file; lines past the last segment are zeros.
-#[derive(Clone, Copy)]
-pub struct Listing {
-    pub refusal: u8,
-    pub place: usize,
-    pub segments: u32,
-    pub arrived: u64,
-    pub left: u64,
-    pub stored: u64,
-    pub partsteps: u64,
-    pub origin: u32,
-    pub lines: [Line; 64],
-}
-
-fn refused_at(number: u8, place: usize) -> Listing
-    ensures { result ≡ refused_listing number place }
+// The line of segment i, counted from 0; there is none where its report is refused.
+fn line_at(f: &Facility, i: u32) -> Option<Line>
+    requires { i < 64 }
+    ensures { line_shown result ≡ line_at f.now i }
 {
-    let none = Line {
-        n: 0,
-        q: 0,
-        letter: 0,
-    };
-    let lines = [none; 64];
-    Listing {
-        refusal: number,
-        place,
-        segments: 0,
-        arrived: 0,
-        left: 0,
-        stored: 0,
-        partsteps: 0,
-        origin: 0,
-        lines,
-    }
-}
-
-// The line of segment i, counted from 0.
-fn line_at(f: Facility, i: u32) -> Line
-    requires { (sound f ≡ true) × (i < segments f.road) × (i < 64) }
-    ensures { result ≡ line_at f i }
-{
-    let report = facility::report(f, i + 1);
-    let level = report.level;
-    Line {
+    let report = facility::report(f, i + 1).ok()?;
+    Some(Line {
         n: report.n,
         q: report.q,
-        letter: letters::letter_byte(level),
-    }
+        level: report.level,
+    })
 }
 
-fn lines_of(f: Facility, ns: usize) -> [Line; 64]
-    requires { (sound f ≡ true) × (ns ≡ segments f.road) × (ns ≤ 64) }
-    ensures { result ≡ lines_by (line_at f) ns }
+// The lines of so many segments.
+fn lines_of(f: &Facility, segments: u32) -> [Option<Line>; 64]
+    requires { segments ≤ 64 }
+    ensures { map line_shown result ≡ lines_by (line_at f.now) segments }
 {
-    let none = Line {
-        n: 0,
-        q: 0,
-        letter: 0,
-    };
-    let mut lines = [none; 64];
-    let mut i: usize = 0;
-    while i < ns {
-        let line = line_at(f, i as u32);
-        lines[i] = line;
-        i += 1;
+    let mut lines = [None; 64];
+    for i in 0..segments {
+        lines[i as usize] = line_at(f, i);
     }
     lines
 }
 
 // What a facility shows by its totals and its segment reports.
-fn show(f: Facility) -> Listing
-    requires { (sound f ≡ true) × (segments f.road ≤ 64) }
-    ensures { result ≡ shown f }
+fn show(f: &Facility) -> Listing
+    requires { (sound f.now ≡ true) × (segments f.now.road ≤ 64) }
+    ensures { told (Ok result) ≡ shown f.now }
 {
-    let road = f.road;
-    let state = f.state;
-    let sums = facility::totals(f);
-    let lines = lines_of(f, road[0] as usize);
+    let segments = f.road[0];
     Listing {
-        refusal: 0,
-        place: 0,
-        segments: road[0],
-        arrived: sums.arrived,
-        left: sums.left,
-        stored: sums.stored,
-        partsteps: sums.partsteps,
-        origin: state.origin,
-        lines,
+        segments,
+        totals: facility::totals(f).unwrap(),
+        origin: f.state.origin,
+        lines: lines_of(f, segments),
     }
 }
 
-// The forecast of a study.
-pub fn forecast(bytes: &[u8]) -> Listing
-    ensures { result ≡ forecast_of bytes.now }
+// Takes the period sheet that starts at a place of the bytes, and answers where it ends; a refusal's place is one of the bytes too.
+fn take_at(f: &mut Facility, bytes: &[u8], at: usize) -> Result<usize, Refused>
+    requires { at ≤ length bytes.now }
+    ensures { TakenAt bytes.now at result f.new (take_of f.old (drop at bytes.now)) }
 {
-    let road = facility::lay(bytes);
-    if road.refusal != 0 {
-        return refused_at(road.refusal, road.offset);
+    match facility::take(f, &bytes[at..]) {
+        Ok(used) => Ok(at + used),
+        Err(refused) => Err(refused.moved_by(at)),
     }
-    let mut f = road.facility;
-    let mut at = road.used;
+}
+
+// The forecast of a study. A run behind a taking is never refused.
+pub fn forecast(bytes: &[u8]) -> Result<Listing, Refused>
+    ensures { told result ≡ forecast_of bytes.now }
+{
+    let Laid {
+        facility: mut f,
+        answer,
+    } = facility::lay(bytes);
+    let mut at = answer?;
+    // Stays: no plainer. Where a sheet ends is known when it was read, so no `for` goes over the sheets.
     while at < bytes.len() {
-        let sheet = facility::take(f, &bytes[at..]);
-        if sheet.refusal != 0 {
-            return refused_at(sheet.refusal, at + sheet.offset);
-        }
-        let begun = sheet.facility;
-        let period = facility::run(begun, 60);
-        let ended = period.facility;
-        f = ended;
-        at += sheet.used;
+        at = take_at(&mut f, bytes, at)?;
+        facility::run(&mut f, 60)?;
     }
-    show(f)
-}
-
-fn wide(x: u32) -> u64
-    ensures { result ≡ x }
-{
-    x as u64
-}
-
-fn wide_byte(x: u8) -> u64
-    ensures { result ≡ x }
-{
-    x as u64
-}
-
-// Puts the refusal, NS, the totals and o, the first eight numbers.
-fn put_totals(x: Listing, out: &mut [u64])
-    requires { 200 ≤ length out.old }
-    ensures { out.new ≡ take 8 (listing_numbers x) ++ drop 8 out.old }
-{
-    out[0] = wide_byte(x.refusal);
-    out[1] = x.place as u64;
-    out[2] = wide(x.segments);
-    out[3] = x.arrived;
-    out[4] = x.left;
-    out[5] = x.stored;
-    out[6] = x.partsteps;
-    out[7] = wide(x.origin);
-}
-
-// Puts n, q and the letter of a line from the place k on.
-fn put_line(line: Line, out: &mut [u64], k: usize)
-    requires { k + 3 ≤ length out.old }
-    ensures { out.new ≡ set (set (set out.old k line.n) (k + 1) line.q) (k + 2) line.letter }
-{
-    out[k] = wide(line.n);
-    out[k + 1] = wide(line.q);
-    out[k + 2] = wide_byte(line.letter);
-}
-
-// Puts the lines behind the first eight numbers.
-fn put_lines(lines: [Line; 64], out: &mut [u64])
-    requires { (length lines ≡ 64) × (200 ≤ length out.old) }
-    ensures { out.new ≡ (take 8 out.old ++ line_numbers lines) ++ drop 200 out.old }
-{
-    let mut i: usize = 0;
-    while i < 64 {
-        let line = lines[i];
-        put_line(line, out, 8 + 3 * i);
-        i += 1;
-    }
-}
-
-// The forecast of a study, for C and Rust: its numbers go to the front of `out`, and the refusal's number, 0 for none, is the answer.
-// The crate `study_c` exports it.
-pub fn freeway_forecast(study: &[u8], out: &mut [u64]) -> u64
-    ensures { (result ≡ export_answer study.now out.old) × (out.new ≡ export_into study.now out.old) }
-{
-    if out.len() < 200 {
-        return 7;
-    }
-    let x = forecast(study);
-    let lines = x.lines;
-    put_totals(x, out);
-    put_lines(lines, out);
-    wide_byte(x.refusal)
+    Ok(show(&f))
 }

@@ -4,15 +4,12 @@
 
 use convert::Way;
 
-// The buffers serve every study: the longest that converts has 26,149 bytes in the first layout and 32,293 in the second, and the refusal
-// of a longer one is decided before.
+// Stays: no plainer. A program for each way, of one call; a program of both would ask for an argument that these have not.
 fn main(rt: HostRuntime) {
     converter::turn(
         Way::ToSecond,
         &mut rt.stdin(),
         &mut rt.stdout(),
         &mut rt.stderr(),
-        &mut input::large_buffer(),
-        &mut input::large_buffer(),
     );
 }

@@ -4,14 +4,12 @@
 
 use convert::Way;
 
-// The buffers serve every study, as those of `study_from_first` do.
+// Stays: no plainer. A program for each way, of one call; a program of both would ask for an argument that these have not.
 fn main(rt: HostRuntime) {
     converter::turn(
         Way::ToFirst,
         &mut rt.stdin(),
         &mut rt.stdout(),
         &mut rt.stderr(),
-        &mut input::large_buffer(),
-        &mut input::large_buffer(),
     );
 }

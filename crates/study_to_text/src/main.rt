@@ -8,6 +8,6 @@ fn main(rt: HostRuntime) {
         &mut rt.stdin(),
         &mut rt.stdout(),
         &mut rt.stderr(),
-        &mut input::large_buffer(),
+        &mut [0; input::STUDY_ROOM],
     );
 }

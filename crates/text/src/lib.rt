@@ -1,121 +1,113 @@
 // Text for people, line by line: words with white space between them, and decimal numbers. A comment goes from a `#` to the end of its line.
 #![tactic(auto)]
 
-ghost use Rattle.std.specs.Prelude.{◌≡◌, ◌+◌, ◌-◌, ◌*◌, ◌≤◌, ◌<◌, min, length, drop};
-ghost use Rattle.text.specs.Text.{is_white, is_digit, stops, first_from, word_at, number_of, same_word};
+ghost use Rattle.std.specs.Prelude.{◌≡◌, ◌≤◌, ◌<◌, ◌+◌, ◌++◌, Bool, true, false, List, ℕ, MatchOption, IfSome, length};
+ghost use Rattle.std.specs.List.{position_or_len};
+ghost use Rattle.text.specs.Text.{is_white, is_digit, stops, digit_of, with_digit, IsNoWord, IsWord, word_at, number_of, same_word};
 
-// A word of a line, from its first byte to before its end; none is left where both are the same.
-#[derive(Clone, Copy)]
-pub struct Word {
-    pub start: usize,
-    pub end: usize,
-}
-
-// A decimal number up to 2 ^ 32 - 1, or something else.
-#[derive(Clone, Copy)]
-pub enum Numeral {
-    Value(u32),
-    Other,
-}
-
-fn is_white(b: u8) -> bool
+// Whether a byte is white space.
+#[tactic(auto, unfolding(crate::specs::Text::is_white))]
+pub fn is_white(b: u8) -> bool
     ensures { result ≡ is_white b }
 {
-    (b == 32) | ((9 <= b) & (b <= 13))
+    (b == b' ') | ((b'\t' <= b) & (b <= b'\r'))
 }
 
 // Whether a byte is `0` to `9`.
-pub fn is_digit(b: u8) -> bool
+#[tactic(auto, unfolding(crate::specs::Text::is_digit))]
+fn is_digit(b: u8) -> bool
     ensures { result ≡ is_digit b }
 {
-    (48 <= b) & (b <= 57)
+    b.is_ascii_digit()
 }
 
-// In a word, whether a byte ends it; before one, whether it ends the white space.
-fn is_stop(in_word: bool, b: u8) -> bool
-    ensures { result ≡ stops in_word b }
+// Whether a byte ends a word.
+#[tactic(auto, unfolding(crate::specs::Text::stops))]
+fn ends_word(b: u8) -> bool
+    ensures { result ≡ stops true b }
 {
-    if in_word {
-        return is_white(b) | (b == 35);
+    is_white(b) || b == b'#'
+}
+
+// How many bytes a line has before the first that stops; all where none does.
+fn count_before<F: Fn(u8) -> bool>(line: &[u8], stops: F) -> usize
+    requires { F.IsAlwaysCallable stops }
+    ensures { (tells : ℕ → Bool) → ((b : ℕ) (r : Bool) → F.post stops b r → r ≡ tells b)
+        → (result ≡ position_or_len tells line.now) × (result ≤ length line.now) }
+{
+    line.iter().position(|b| stops(*b)).unwrap_or(line.len())
+}
+
+// How many bytes of white space a line begins with.
+fn white_space(line: &[u8]) -> usize
+    ensures { (result ≡ position_or_len (stops false) line.now) × (result ≤ length line.now) }
+{
+    count_before(
+        line,
+        |b: u8| -> bool
+            ensures { result ≡ stops false b }
+        { !is_white(b) },
+    )
+}
+
+// How many bytes of a word a line begins with.
+fn word_length(line: &[u8]) -> usize
+    ensures { (result ≡ position_or_len (stops true) line.now) × (result ≤ length line.now) }
+{
+    count_before(line, ends_word)
+}
+
+// The next word of a line, and what stands behind it.
+pub fn next_word(line: &[u8]) -> Option<(&[u8], &[u8])>
+    ensures word { (front : List ℕ) → let whole = front ++ line.now in let at = length front in
+        MatchOption result (IsNoWord (word_at whole at)) (λ p. IsWord whole (word_at whole at) p.0.now p.1.now) }
+    ensures within { IfSome result (λ p. (0 < length p.0.now) × (length p.0.now + length p.1.now ≤ length line.now)) }
+{
+    let from = &line[white_space(line)..];
+    let count = word_length(from);
+    if count == 0 {
+        return None;
     }
-    !is_white(b)
+    Some(from.split_at(count))
 }
 
-// The place of the first byte from a place on that ends a word, or the white space before one.
-fn first(line: &[u8], at: usize, in_word: bool) -> usize
-    requires { at ≤ length line.now }
-    ensures { (result ≡ first_from in_word at (drop at line.now)) × (at ≤ result) × (result ≤ length line.now) }
+// The value of a decimal digit.
+#[tactic(auto, unfolding(crate::specs::Text::is_digit, crate::specs::Text::digit_of))]
+fn digit(b: u8) -> Option<u8>
+    ensures { result ≡ digit_of b }
 {
-    let mut i = at;
-    while i < line.len() {
-        if is_stop(in_word, line[i]) {
-            return i;
-        }
-        i += 1;
-    }
-    i
+    if is_digit(b) { Some(b - b'0') } else { None }
 }
 
-fn least(a: usize, b: usize) -> usize
-    ensures { result ≡ min a b }
+// The number that one more digit makes of a number.
+#[tactic(auto, unfolding(crate::specs::Text::digit_of, crate::specs::Text::with_digit))]
+fn with_digit(value: u32, b: u8) -> Option<u32>
+    ensures { result ≡ with_digit value b }
 {
-    if a < b { a } else { b }
-}
-
-// The next word of a line from a place on.
-pub fn next_word(line: &[u8], at: usize) -> Word
-    ensures { (result ≡ word_at line.now at) × (min at (length line.now) ≤ result.start) × (result.start ≤ result.end)
-        × (result.end ≤ length line.now) }
-{
-    let start = first(line, least(at, line.len()), false);
-    let end = first(line, start, true);
-    Word { start, end }
-}
-
-fn digit(b: u8) -> u64
-    requires { 48 ≤ b }
-    ensures { (result ≡ b - 48) × (result < 256) }
-{
-    (b - 48) as u64
+    let digit = digit(b)?;
+    value.checked_mul(10)?.checked_add(u32::from(digit))
 }
 
 // The number that a word says.
-pub fn number(word: &[u8]) -> Numeral
+// Stays: no plainer. The library's `parse` also takes a `+` before the digits, and bytes that are no text would have to be told from it first.
+#[tactic(auto, unfolding(crate::specs::Text::number_of))]
+pub fn number(word: &[u8]) -> Option<u32>
     ensures { result ≡ number_of word.now }
 {
-    if word.len() == 0 {
-        return Numeral::Other;
+    if word.is_empty() {
+        return None;
     }
-    let mut v: u64 = 0;
-    let mut i: usize = 0;
-    while i < word.len() {
-        let b = word[i];
-        if !is_digit(b) {
-            return Numeral::Other;
-        }
-        let next = 10 * v + digit(b);
-        if 4294967295 < next {
-            return Numeral::Other;
-        }
-        v = next;
-        i += 1;
+    let mut value = 0;
+    for b in word {
+        value = with_digit(value, *b)?;
     }
-    Numeral::Value(v as u32)
+    Some(value)
 }
 
 // Whether two words are the same.
+// Stays: no plainer where the bytes are not named by a match; its promise, that each byte decides, is one of docs/TRACE.
 pub fn same(a: &[u8], b: &[u8]) -> bool
     ensures { result ≡ same_word a.now b.now }
 {
-    if a.len() != b.len() {
-        return false;
-    }
-    let mut i: usize = 0;
-    while i < a.len() {
-        if a[i] != b[i] {
-            return false;
-        }
-        i += 1;
-    }
-    true
+    a == b
 }

@@ -4,7 +4,7 @@
 // Any other record is told to be none, and where it differs from its first byte outside places 1 to 3.
 #![tactic(auto)]
 
-use records::{Record, say};
+use input::{LINE_ROOM, Lines, STUDY_ROOM};
 use std::io;
 use std::io::Write;
 use std::rt::Files;
@@ -15,120 +15,79 @@ fn from_file<R: Files, W: Write>(
     output: &mut W,
     text: &[u8],
     study: &[u8],
-    line_room: usize,
-    byte_room: usize,
+    [line_room, byte_room]: [u32; 2],
 ) {
-    let mut line = input::line_room();
-    let mut out = input::large_buffer();
+    let mut line = [0; LINE_ROOM];
+    let mut out = [0; STUDY_ROOM];
     let mut source = input::open(rt, text);
     let mut target = input::create(rt, study);
-    if line_room <= 98304 {
-        if byte_room <= 65536 {
-            from_text::turn(
-                &mut source,
-                &mut target,
-                output,
-                &mut line[..line_room],
-                &mut out[..byte_room],
-            );
+    if let Some(line) = line.get_mut(..line_room as usize) {
+        if let Some(out) = out.get_mut(..byte_room as usize) {
+            from_text::turn(&mut source, &mut target, output, line, out);
         }
     }
 }
 
-fn play_from<R: Files, W: Write>(rt: &R, output: &mut W, rest: &[u8]) {
-    let text = text::next_word(rest, 0);
-    let study = text::next_word(rest, text.end);
-    let rooms = records::up_to_two(&rest[study.end..], 98304, 65536);
-    if !rooms.fine {
-        say(output, b"not a record\n");
-        return;
+fn play_from<R: Files, W: Write>(rt: &R, output: &mut W, rest: &[u8]) -> io::Result<()> {
+    let (text, rest) = text::next_word(rest).unwrap_or_default();
+    let (study, rest) = text::next_word(rest).unwrap_or_default();
+    match records::numbers(rest, [LINE_ROOM as u32, STUDY_ROOM as u32]) {
+        Some(rooms) => {
+            from_file(rt, output, text, study, rooms);
+            Ok(())
+        }
+        None => writeln!(output, "not a record"),
     }
-    from_file(
-        rt,
-        output,
-        &rest[text.start..text.end],
-        &rest[study.start..study.end],
-        rooms.first as usize,
-        rooms.second as usize,
-    );
 }
 
 fn play_to<R: Files + Print>(rt: &R, rest: &[u8]) {
-    let mut buffer = input::large_buffer();
-    let study = text::next_word(rest, 0);
-    let mut source = input::open(rt, &rest[study.start..study.end]);
+    let (study, _) = text::next_word(rest).unwrap_or_default();
     to_text::turn(
-        &mut source,
+        &mut input::open(rt, study),
         &mut io::writer(rt),
         &mut io::writer(rt),
-        &mut buffer,
+        &mut [0; STUDY_ROOM],
     );
 }
 
+// The record again, on a line. Where that cannot be printed it is lost, and the call is made all the same.
 fn say_line<W: Write>(output: &mut W, record: &[u8]) {
-    say(output, record);
-    say(output, b"\n");
+    let _ = output.write_all(record);
+    let _ = writeln!(output);
 }
 
-fn play<R: Files + Print, W: Write>(rt: &R, output: &mut W, record: &[u8]) {
-    let name = text::next_word(record, 0);
-    let word = &record[..name.end];
-    let rest = &record[name.end..];
-    if text::same(word, b"from-text") {
-        say_line(output, record);
-        play_from(rt, output, rest);
-        return;
+// Tells that a record is none, and where it differs from its first byte.
+fn say_no_record<W: Write>(output: &mut W, record: &[u8]) -> io::Result<()> {
+    records::say_record(output, record)?;
+    write!(output, "not a record")?;
+    if let Some(first) = record.first() {
+        records::say_altered(output, record, *first, 1, 3)?;
     }
-    if text::same(word, b"to-text") {
-        say_line(output, record);
-        play_to(rt, rest);
-        return;
-    }
-    records::say_record(output, record);
-    say(output, b"not a record");
-    if 0 < record.len() {
-        records::say_altered(output, record, record[0], 1, 3);
-    }
-    say(output, b"\n");
+    writeln!(output)
 }
 
-// Plays a record of a line, and tells whether there was one.
-fn play_line<R: Files + Print, W: Write>(
-    rt: &R,
-    output: &mut W,
-    line: &[u8],
-    next: Record,
-) -> bool {
-    let from = next.start;
-    let to = next.end;
-    if line.len() < to {
-        return false;
+fn play<R: Files + Print, W: Write>(rt: &R, output: &mut W, record: &[u8]) -> io::Result<()> {
+    let (name, rest) = text::next_word(record).unwrap_or_default();
+    match name {
+        b"from-text" => {
+            say_line(output, record);
+            play_from(rt, output, rest)
+        }
+        b"to-text" => {
+            say_line(output, record);
+            play_to(rt, rest);
+            Ok(())
+        }
+        _ => say_no_record(output, record),
     }
-    if to <= from {
-        return false;
-    }
-    play(rt, output, &line[from..to]);
-    true
 }
 
 fn main(rt: HostRuntime) {
-    let mut file = rt.stdin();
-    let mut output = rt.stdout();
-    let mut errors = rt.stderr();
-    let mut chunk = [0u8; 7];
-    let mut line = [0u8; 64];
-    let mut next = records::start();
-    for _ in 0..u64::MAX {
-        next = records::next(
-            &mut file,
-            &mut output,
-            &mut errors,
-            next,
-            &mut chunk,
-            &mut line,
-        );
-        if !play_line(&rt, &mut output, &line, next) {
-            return;
-        }
-    }
+    records::play_all(
+        &mut Lines::<_, 7>::new(&mut rt.stdin()),
+        &mut [0; 64],
+        &mut rt.stdout(),
+        &mut rt.stderr(),
+        |output, record| play(&rt, output, record),
+    );
 }

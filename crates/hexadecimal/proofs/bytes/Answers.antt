@@ -1,61 +1,37 @@
 -- Pair by pair: the buffer starts with the bytes of those that were read.
-use mathlib.Core.Path.{refl}
-use native.Mathlib.Omega.{arith}
-use lib.ListN.{length, length-set}
-use Rattle.hexadecimal.proofs.Spellings.{below_16, stored_none, stored_bad, stored_more, stored_odd, stored_all, too_long, no_bytes, some_bytes}
+use Rattle.std.proofs.Common.{length, arith, ◌/◌, ◌≡◌}
+use Rattle.hexadecimal.proofs.Spellings.{stored_bad, stored_more, stored_odd, stored_all, too_long, no_bytes, some_bytes}
 use Rattle.hexadecimal.proofs.bytes.Goals as goal
 
-pub returns-then-out-all : goal.returns-then-out-all
-returns-then-out-all c =
+pub returns-then-out-count-clause-spelled : goal.returns-then-out-count-clause-spelled
+returns-then-out-count-clause-spelled c =
     let a = c.args in
-    too_long a.word.now a.out.now (length a.out.now) c.if-out-all.true
+    too_long a.word.now (length a.out.now) c.if-out-count.true
 
-pub loop-n-init : goal.loop-n-init
-loop-n-init c =
-    let a = c.args in
-    (omega arith, refl, stored_none a.word.now a.out.now)
-
-pub shape_of-out-then-high-low : goal.shape_of-out-then-high-low
-shape_of-out-then-high-low c = c.loop-n.invariant.1
-
-pub returns-then-high-low : goal.returns-then-high-low
-returns-then-high-low c =
+pub returns-in_default-clause-spelled : goal.returns-in_default-clause-spelled
+returns-in_default-clause-spelled c =
     let a = c.args in
     let l = c.loop-n in
-    let is = stored_bad a.word.now l.out l.n l.invariant.2 c.loop-n-test.true _ _ in
-    let bad = is c.hex_value-high.ensures.0 c.hex_value-low.ensures.0 c.if-high-low.true in
-    no_bytes a.word.now l.out (length a.out.now) c.if-out-all.false bad
-
-pub overflow_mul-out : goal.overflow_mul-out
-overflow_mul-out c = omega (arith, below_16 c.hex_value-high.result c.hex_value-low.result c.if-high-low.false)
-
-pub overflow_add-out : goal.overflow_add-out
-overflow_add-out c = omega (arith, below_16 c.hex_value-high.result c.hex_value-low.result c.if-high-low.false)
+    let bad = stored_bad a.word.now l.out l.n l.invariant c.loop-n-test.true c.byte_of.result c.byte_of.ensures c.in_default.is in
+    no_bytes a.word.now (length a.out.now) c.if-out-count.false bad
 
 pub loop-n-preserved : goal.loop-n-preserved
 loop-n-preserved c =
     let a = c.args in
     let l = c.loop-n in
-    let is = stored_more a.word.now l.out l.n l.invariant.2 c.loop-n-test.true _ _ in
-    let more = is c.hex_value-high.ensures.0 c.hex_value-low.ensures.0 c.if-high-low.false (omega arith) in
-    (omega arith, simp length-set l.invariant.1, more)
+    stored_more a.word.now l.out l.n l.invariant c.loop-n-test.true c.byte_of.result c.byte_of.ensures c.in-Some.byte c.in-Some.is (omega arith)
 
-pub shape_of-out-then-all-eq1 : goal.shape_of-out-then-all-eq1
-shape_of-out-then-all-eq1 c = c.loop-n.invariant.1
-
-pub returns-then-all-eq1 : goal.returns-then-all-eq1
-returns-then-all-eq1 c =
+pub returns-then-word-eq1-clause-spelled : goal.returns-then-word-eq1-clause-spelled
+returns-then-word-eq1-clause-spelled c =
     let a = c.args in
     let l = c.loop-n in
-    let odd = stored_odd a.word.now l.out l.n l.invariant.2 (omega arith) c.if-all-eq1.true in
-    no_bytes a.word.now l.out (length a.out.now) c.if-out-all.false odd
+    let odd = stored_odd a.word.now l.out l.n l.invariant (omega arith) c.if-word-eq1.true in
+    no_bytes a.word.now (length a.out.now) c.if-out-count.false odd
 
-pub shape_of-out : goal.shape_of-out
-shape_of-out c = c.loop-n.invariant.1
-
-pub returns : goal.returns
-returns c =
+pub returns-clause-spelled : goal.returns-clause-spelled
+returns-clause-spelled c =
     let a = c.args in
     let l = c.loop-n in
-    let all = stored_all a.word.now l.out l.n l.invariant.2 (omega arith) c.if-all-eq1.false in
-    some_bytes a.word.now l.out (length a.out.now) c.if-out-all.false l.n (omega arith) all
+    let all = stored_all a.word.now l.out l.n l.invariant (omega arith) c.if-word-eq1.false in
+    let last : l.n ≡ length a.word.now / 2 = omega arith in
+    some_bytes a.word.now (length a.out.now) c.if-out-count.false _ (rw last at all)

@@ -2,8 +2,8 @@
 use Rattle.std.proofs.Common.{length, ◌-◌, ◌≤◌}
 use Rattle.input.proofs.read_to_end.Given as goal
 
-abbrev pub invariant-loop-n : goal.invariant-loop-n
-invariant-loop-n g l = l.n ≤ length l.buffer
+abbrev pub invariant-loop-length : goal.invariant-loop-length
+invariant-loop-length g l = l.length ≤ length l.buffer
 
-abbrev pub decreases-loop-n : goal.decreases-loop-n
-decreases-loop-n g l = length l.buffer - l.n
+abbrev pub decreases-loop-length : goal.decreases-loop-length
+decreases-loop-length g l = length l.buffer - l.length

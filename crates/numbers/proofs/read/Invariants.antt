@@ -6,9 +6,9 @@ use Rattle.numbers.specs.Number.{groups, read_number, above}
 use Rattle.numbers.proofs.Turns.{top}
 use Rattle.numbers.proofs.read.Given as goal
 
-abbrev pub invariant-loop-i : goal.invariant-loop-i
-invariant-loop-i l =
+abbrev pub invariant-loop-byte : goal.invariant-loop-byte
+invariant-loop-byte l =
     (read_number l.bytes l.at ≡ above l.value l.scale l.i (groups l.left l.least (drop l.i l.bytes))) × (l.value < l.scale) × (l.scale * top l.left ≡ 2 ^ 32)
 
-abbrev pub decreases-loop-i : goal.decreases-loop-i
-decreases-loop-i l = l.left
+abbrev pub decreases-loop-byte : goal.decreases-loop-byte
+decreases-loop-byte l = l.left

@@ -1,15 +1,8 @@
--- The three tests of a period's start.
-use Rattle.parts.specs.Allowed.{all_below}
+-- The test at each of the three.
+use mathlib.Core.Path.{refl}
+use Rattle.std.proofs.Common.{rules, tests}
+use Rattle.parts.proofs.Each.{each_below}
 use Rattle.parts.proofs.is_opening.Goals as goal
 
 pub returns : goal.returns
-unfolding all_below
-returns c =
-    rw (
-      c.is_within.ensures,
-      c.period_range.ensures,
-      c.is_within-2.ensures,
-      c.period_range-2.ensures,
-      c.is_within-3.ensures,
-      c.period_range-3.ensures,
-    )
+returns c = each_below _ 3 _ _ _ c.all.ensures.ran refl (λ x b q k. search (rules, tests))

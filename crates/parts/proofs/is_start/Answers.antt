@@ -1,17 +1,8 @@
--- The four tests of a road's start.
-use Rattle.parts.specs.Allowed.{all_below}
+-- The test at each of the four.
+use mathlib.Core.Path.{refl}
+use Rattle.std.proofs.Common.{rules, tests}
+use Rattle.parts.proofs.Each.{each_below}
 use Rattle.parts.proofs.is_start.Goals as goal
 
 pub returns : goal.returns
-unfolding all_below
-returns c =
-    rw (
-      c.is_within.ensures,
-      c.road_start.ensures,
-      c.is_within-2.ensures,
-      c.road_start-2.ensures,
-      c.is_within-3.ensures,
-      c.road_start-3.ensures,
-      c.is_within-4.ensures,
-      c.road_start-4.ensures,
-    )
+returns c = each_below _ 4 _ _ _ c.all.ensures.ran refl (λ x b q k. search (rules, tests))

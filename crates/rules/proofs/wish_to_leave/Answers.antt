@@ -1,14 +1,10 @@
--- By the speed below full, else the lesser of n and C.
+-- Below full n × reach is below C × L; from full on D is the lesser of n and C.
 use Prim.Native.Nat.{◌*◌, ◌<◌}
 use native.Mathlib.Omega.{arith}
 use native.Mathlib.Nat.{mul-le-mul}
-use Rattle.rules.proofs.Closed.{below_full, wish_below_full, wish_from_full}
+use Rattle.rules.proofs.Closed.{below_full, wish_from_full}
 use Rattle.rules.proofs.wish_to_leave.Goals as goal
 
-pub returns-then-n-full : goal.returns-then-n-full
-returns-then-n-full c = let p = c.requires in λ v e. wish_below_full _ _ v _ _ e p.1 p.3 (rw p.4 at c.if-n-full.true)
-
--- n × reach is then below C × L
 small : (c : goal.Then-n-full) → c.args.n * c.args.reach < 528000000
 small c =
     let p = c.requires in
@@ -17,17 +13,8 @@ small c =
 pub overflow_mul-result : goal.overflow_mul-result
 overflow_mul-result c = omega (arith, small c)
 
-pub overflow_sub-result : goal.overflow_sub-result
-overflow_sub-result c = omega (arith, c.requires.1)
-
 pub overflow_add-result : goal.overflow_add-result
-overflow_add-result c = omega (arith, small c, c.requires.2)
-
-pub nonzero_div-result : goal.nonzero_div-result
-nonzero_div-result c = omega (arith, c.requires.1)
-
-pub least-requires : goal.least-requires
-least-requires c = tt
+overflow_add-result c = omega (arith, small c)
 
 pub returns : goal.returns
-returns c = let p = c.requires in λ v e. rw c.least.ensures (wish_from_full _ _ v _ _ e p.1 p.3 (rw p.4 at c.if-n-full.false))
+returns c = let p = c.requires in λ v e. rw c.min.ensures (wish_from_full _ _ v _ _ e p.1 p.3 (rw p.4 at c.if-n-full.false))

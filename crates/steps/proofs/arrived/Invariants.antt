@@ -1,13 +1,12 @@
--- The ramps in turn: the sum so far is that of the ramps passed.
-use Prim.Native.Nat.{◌≤◌, ◌-◌, ◌*◌}
+-- The ramps in turn: the sum so far is the mainline demand and that of the ramps passed.
+use Prim.Native.Nat.{◌≤◌, ◌+◌, ◌*◌}
 use mathlib.Core.Path.{◌≡◌}
 use Rattle.conditions.specs.Conditions.{in_force_at}
-use Rattle.conditions.specs.Row.{conditions_in}
+use Rattle.conditions.specs.View.{conditions_in}
 use Rattle.steps.specs.Step.{sum_to}
 use Rattle.steps.proofs.arrived.Given as goal
 
-abbrev pub invariant-loop-i : goal.invariant-loop-i
-invariant-loop-i l = (l.i ≤ l.ns) × (l.ns ≡ (conditions_in l.row).segments) × (l.sum ≤ 10000 * l.i) × (l.sum ≡ sum_to (λ j. (in_force_at (conditions_in l.row) j).demand) l.i)
-
-abbrev pub decreases-loop-i : goal.decreases-loop-i
-decreases-loop-i l = l.ns - l.i
+abbrev pub invariant-loop-place : goal.invariant-loop-place
+invariant-loop-place l =
+    (l.sum ≤ 20000 + 10000 * l.place-index)
+    × (l.sum ≡ (conditions_in l.conditions).demand + sum_to (λ j. (in_force_at (conditions_in l.conditions) j).demand) l.place-index)

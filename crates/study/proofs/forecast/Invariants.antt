@@ -1,5 +1,5 @@
 -- The road, and then sheet by sheet to the end of the file.
-use Prim.Native.Nat.{◌-◌}
+use Rattle.std.proofs.Common.{◌-◌}
 use Rattle.study.proofs.Periods.{Turn}
 use Rattle.study.proofs.forecast.Given as goal
 

@@ -1,16 +1,18 @@
--- Its start, and its end from there on.
-use mathlib.Core.Path.{subst}
-use Prim.Native.Nat.{ℕ, ◌≤◌}
-use Rattle.text.proofs.Turns.{word_is}
+-- Behind the white space, up to the byte that ends it.
+use Rattle.std.proofs.lemmas.List.{take_rest}
+use Rattle.text.proofs.Turns.{no_word, some_word}
 use Rattle.text.proofs.next_word.Goals as goal
 
-pub returns : goal.returns
-returns c =
-    let start = c.first-start in
-    let from = c.least in
-    let a = c.args in (
-      word_is a.line.now a.at from.result start.result c.first-end.result from.ensures start.ensures.0 c.first-end.ensures.0,
-      subst (λ (n : ℕ). n ≤ start.result) from.ensures start.ensures.1,
-      c.first-end.ensures.1,
-      c.first-end.ensures.2,
-    )
+pub returns-then-count-eq0-clause-word : goal.returns-then-count-eq0-clause-word
+returns-then-count-eq0-clause-word c front =
+    let line = c.args.line.now in
+    let rest = take_rest line c.white_space.result in
+    no_word front line c.white_space.result c.white_space.ensures.0 c.word_length-count.result (rw rest at c.word_length-count.ensures.0) c.if-count-eq0.true
+
+pub returns-clause-word : goal.returns-clause-word
+returns-clause-word c front =
+    let line = c.args.line.now in
+    let rest = take_rest line c.white_space.result in
+    let parts = c.split_at.ensures in
+    some_word front line c.white_space.result c.white_space.ensures.0 c.word_length-count.result (rw rest at c.word_length-count.ensures.0) c.if-count-eq0.false
+    c.split_at.result.0.now (rw rest at parts.front) c.split_at.result.1.now (rw rest at parts.back)

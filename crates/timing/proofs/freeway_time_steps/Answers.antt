@@ -1,38 +1,18 @@
 -- The periods in turn.
-use mathlib.Core.Path.{◌≡◌, refl}
-use native.Mathlib.Omega.{arith}
-use native.Mathlib.Numerals.{add-one}
-use Rattle.timing.specs.Repeated.{periods_one_by_one}
+use Rattle.std.proofs.Common.{refl, sym, ap, ◌∙◌, add-one}
+use Rattle.door.specs.declared.Facility.{Facility}
+use Rattle.facility.specs.Calls.{Reply, take_of}
+use Rattle.facility.proofs.Told.{facility_after}
+use Rattle.timing.specs.Repeated.{one_by_one, periods_one_by_one}
 use Rattle.timing.proofs.freeway_time_steps.Goals as goal
 
-pub lay-laid-requires : goal.lay-laid-requires
-lay-laid-requires c = tt
-
-pub loop-i-init : goal.loop-i-init
+pub loop-init : goal.loop-init
 unfolding periods_one_by_one
-loop-i-init c = (omega arith, refl)
+loop-init c = refl
 
-pub take-taken-requires : goal.take-taken-requires
-take-taken-requires c = tt
-
-pub sixty_runs-next-requires : goal.sixty_runs-next-requires
-sixty_runs-next-requires c = tt
-
-pub overflow_add-i : goal.overflow_add-i
-overflow_add-i c = omega (arith, c.loop-i-test.true, c.ranges)
-
-pub loop-i-smaller : goal.loop-i-smaller
-loop-i-smaller c = omega (arith, c.loop-i-test.true)
-
-pub loop-i-preserved : goal.loop-i-preserved
+pub loop-preserved : goal.loop-preserved
 unfolding periods_one_by_one
-loop-i-preserved c =
-    (omega (arith, c.loop-i-test.true), rw (add-one, c.sixty_runs-next.ensures, c.take-taken.ensures, c.loop-i.invariant.1))
-
-pub totals-requires : goal.totals-requires
-totals-requires c = tt
-
-pub returns : goal.returns
-returns c =
-    let e : c.loop-i.i ≡ c.args.periods = omega (arith, c.loop-i.invariant.0, c.loop-i-test.false) in
-    rw (c.totals.ensures, c.loop-i.invariant.1, e, c.lay-laid.ensures)
+loop-preserved c =
+    let taken =
+    sym (facility_after c.take.result c.take.new.f) ∙ ap (λ (q : Reply). q.facility) c.take.ensures ∙ ap (λ (f : Facility). (take_of f c.args.period.now).facility) c.loop.invariant in
+    rw add-one (c.sixty_runs.ensures ∙ ap (one_by_one 60) taken)

@@ -1,26 +1,17 @@
 -- The runs in turn.
-use mathlib.Core.Path.{◌≡◌, refl}
-use native.Mathlib.Omega.{arith}
-use native.Mathlib.Numerals.{add-one}
+use Rattle.std.proofs.Common.{refl, sym, ap, ◌∙◌, add-one}
+use Rattle.door.specs.declared.Facility.{Facility}
+use Rattle.facility.specs.Calls.{Reply, run_of}
+use Rattle.facility.proofs.Told.{facility_after_run}
 use Rattle.timing.specs.Repeated.{one_by_one}
 use Rattle.timing.proofs.sixty_runs.Goals as goal
 
-pub loop-i-init : goal.loop-i-init
+pub loop-init : goal.loop-init
 unfolding one_by_one
-loop-i-init c = (omega arith, refl)
+loop-init c = refl
 
-pub run-ran-requires : goal.run-ran-requires
-run-ran-requires c = tt
-
-pub overflow_add-i : goal.overflow_add-i
-overflow_add-i c = omega (arith, c.loop-i-test.true)
-
-pub loop-i-smaller : goal.loop-i-smaller
-loop-i-smaller c = omega (arith, c.loop-i-test.true)
-
-pub loop-i-preserved : goal.loop-i-preserved
+pub loop-preserved : goal.loop-preserved
 unfolding one_by_one
-loop-i-preserved c = (omega (arith, c.loop-i-test.true), rw (add-one, c.run-ran.ensures, c.loop-i.invariant.1))
-
-pub returns : goal.returns
-returns c = let e : c.loop-i.i ≡ 60 = omega (arith, c.loop-i.invariant.0, c.loop-i-test.false) in rw (c.loop-i.invariant.1, e)
+loop-preserved c =
+    rw add-one
+    (sym (facility_after_run c.run.result c.run.new.f) ∙ ap (λ (q : Reply). q.facility) c.run.ensures ∙ ap (λ (f : Facility). (run_of f 1).facility) c.loop.invariant)

@@ -1,45 +1,50 @@
--- The writer's loop: the bytes of the first k numbers stand at the start of `out`.
+-- The writer's loop: the bytes of the first numbers stand at the start of `out`.
 use lib.ListN.{length, take, drop, get_or}
-use lib.Seq.{take_all}
+use borrow.Rule.Slice.PartMut.{put_mid}
+use Rattle.numbers.proofs.Stores.{lent_back}
 use mathlib.Core.List.{List, ◌++◌}
-use mathlib.Core.Path.{◌≡◌, sym, ap, ◌∙◌, refl}
-use Prim.Native.Nat.{ℕ, ◌+◌, ◌≤◌, ◌<◌}
+use mathlib.Core.Path.{◌≡◌, sym, ◌∙◌, refl}
+use Prim.Native.Nat.{ℕ, ◌+◌, ◌-◌, ◌≤◌, ◌<◌}
 use native.Mathlib.Omega.{arith}
 use Rattle.numbers.specs.Number.{number_bytes}
 use Rattle.sheets.specs.Write.{row_bytes}
-use Rattle.sheets.proofs.Turns.{length_more, length_part, bytes_more, put_more, length_put}
+use Rattle.sheets.proofs.Turns.{length_more, length_part, bytes_more, put_more}
 use Rattle.sheets.proofs.writing.put_row.Goals as goal
 
+pub loop-value-init : goal.loop-value-init
+unfolding row_bytes
+loop-value-init c = (refl, refl)
+
 -- room for the bytes of the next number
-room : (row out : List ℕ) (k i : ℕ) → k < length row → i ≡ length (row_bytes (take k row)) → length (row_bytes row) ≤ length out
+room : (row out : List ℕ) (k i : ℕ) → k < length row → i ≡ length (row_bytes (take k row)) → length out ≡ length (row_bytes row)
     → i + length (number_bytes (get_or row k 0)) ≤ length out
 room row out k i h e fits = omega (arith, length_more row k h, length_part row (k + 1))
 
-pub loop-k-init : goal.loop-k-init
-unfolding row_bytes
-loop-k-init c = (refl, refl, omega arith, refl)
+-- the bytes of one number more
+more : (row out start new : List ℕ) (k i n : ℕ) → k < length row → out ≡ row_bytes (take k row) ++ drop i start → i ≡ length (row_bytes (take k row))
+    → length out ≡ length start → length start ≡ length (row_bytes row) → n ≡ length (number_bytes (get_or row k 0)) → new ≡ number_bytes (get_or row k 0)
+    → put_mid i (i + n - i) out new ≡ row_bytes (take (k + 1) row) ++ drop (i + n) start
+more row out start new k i n h o e long fits size is =
+    let w = number_bytes (get_or row k 0) in
+    let r = room row start k i h e fits in
+    let m : i + n - i ≡ n = omega arith in
+    rw (is, m) (lent_back out w i n size (omega (arith, r, long, size)) ∙ put_more out (row_bytes (take k row)) w start i o (sym e) r ∙ rw (bytes_more row k h, size))
 
 pub overflow_add-i : goal.overflow_add-i
 overflow_add-i c =
-    let l = c.loop-k in
-    omega (arith, room c.args.row.now c.args.out.now l.k l.i c.loop-k-test.true l.invariant.1 c.requires, c.length-i.ensures)
+    let l = c.loop-value in
+    omega (arith, room c.args.row.now c.args.out.now l.value-index l.i c.loop-value-test.true l.invariant.1 c.requires, c.length-n.ensures)
 
-pub loop-k-preserved : goal.loop-k-preserved
-loop-k-preserved c =
-    let l = c.loop-k in
-    let row = c.args.row.now in
-    let out = c.args.out.now in
-    let v = get_or row l.k 0 in
-    let h = c.loop-k-test.true in
-    let fits = room row out l.k l.i h l.invariant.1 c.requires in
-    let i : l.i + c.length-i.result ≡ length (row_bytes (take (l.k + 1) row)) = omega (arith, c.length-i.ensures, length_more row l.k h) in
-    let o : c.write.new.buffer ≡ row_bytes (take (l.k + 1) row) ++ drop (l.i + c.length-i.result) out =
-    c.write.ensures.1
-    ∙ put_more l.out (row_bytes (take l.k row)) (number_bytes v) out l.i l.invariant.0 (sym l.invariant.1) fits
-    ∙ rw (bytes_more row l.k h, c.length-i.ensures)
-    in
-    let n = length_put (row_bytes (take (l.k + 1) row)) out (l.i + c.length-i.result) i (omega (arith, fits, c.length-i.ensures)) in
-    (o, i, omega arith, ap length o ∙ n)
+pub slice_bounds-put-end : goal.slice_bounds-put-end
+slice_bounds-put-end c =
+    let l = c.loop-value in
+    omega (arith, room c.args.row.now c.args.out.now l.value-index l.i c.loop-value-test.true l.invariant.1 c.requires, c.length-n.ensures, l.auto.out)
 
-pub returns : goal.returns
-returns c = c.loop-k.invariant.0 ∙ rw (c.loop-k.invariant.1, take_all _ _ c.loop-k-test.false)
+pub loop-value-preserved : goal.loop-value-preserved
+loop-value-preserved c =
+    let l = c.loop-value in
+    let a = c.args in
+    let h = c.loop-value-test.true in (
+      more a.row.now l.out a.out.now _ l.value-index l.i _ h l.invariant.0 l.invariant.1 l.auto.out c.requires c.length-n.ensures c.put.ensures,
+      omega (arith, c.length-n.ensures, length_more a.row.now l.value-index h),
+    )

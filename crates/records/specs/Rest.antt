@@ -1,0 +1,24 @@
+-- What is left of a record (no rule of document 01).
+use Rattle.std.specs.Prelude.{ℕ, ◌≡◌, ◌+◌, ◌<◌, ◌≤◌, ◌⊎◌, List, [], ◌∷◌, Some}
+use Rattle.text.specs.Text.{word_at, IsWord, IsNoWord, number_of}
+use Rattle.hexadecimal.specs.Spelling.{spelled, Bytes}
+
+-- the one word of what is left
+abbrev pub IsOnlyWord : (rest word : List ℕ) → Type 0
+IsOnlyWord rest word = (behind : List ℕ) × IsWord rest (word_at rest 0) word behind × IsNoWord (word_at behind 0)
+
+-- the bytes that a word says, `-` for none
+abbrev pub AreBytesOf : (word bytes : List ℕ) → Type 0
+AreBytesOf word bytes = ((word ≡ 45 ∷ []) × (bytes ≡ [])) ⊎ (spelled word ≡ Bytes bytes)
+
+-- the numbers of what is left, with defaults for those at its end that it does not give
+unfoldable pub AreNumbersOf : (rest defaults numbers : List ℕ) → Type 0
+AreNumbersOf rest [] [] = IsNoWord (word_at rest 0)
+AreNumbersOf rest [] (n ∷ ns) = ⊥
+AreNumbersOf rest (d ∷ ds) [] = ⊥
+AreNumbersOf rest (d ∷ ds) (n ∷ ns) = (IsNoWord (word_at rest 0) × (n ≡ d) × (ns ≡ ds))
+    ⊎ ((word : List ℕ) × (behind : List ℕ) × IsWord rest (word_at rest 0) word behind × (number_of word ≡ Some n) × AreNumbersOf behind ds ns)
+
+-- a place outside a part of a buffer
+abbrev pub IsOutside : (at count place : ℕ) → Type 0
+IsOutside at count place = (place < at) ⊎ (at + count ≤ place)
