@@ -23,6 +23,7 @@ fn say_refused<W: Write>(output: &mut W, refusal: Refusal) -> io::Result<()> {
     write!(output, "{}", Refused::from(refusal))
 }
 
+// Stays: no plainer. The output, the facility and what is left of the record go to each call's function here; a struct of them would be opened in each.
 fn lay<W: Write>(output: &mut W, f: &mut Facility, rest: &[u8]) -> Option<io::Result<()>> {
     let mut buffer = [0; STUDY_ROOM];
     let laid = facility::lay(records::only_bytes(rest, &mut buffer)?);
@@ -68,8 +69,7 @@ fn totals<W: Write>(output: &mut W, f: &Facility, rest: &[u8]) -> Option<io::Res
     })
 }
 
-// Stays: no plainer. One function for the filled buffers of the programs would take the size, the room, and a closure for what is done with
-// the part and said of it, in the place of four lines.
+// Stays: no plainer. The filled buffers of three programs differ in size, in what is refused and in what is said; one function would take all three.
 // Writes a sheet to a filled buffer of the room and from the place that are left of a record.
 fn write_sheet<W: Write, F: FnOnce(&Facility, &mut [u8], usize) -> Result<usize, Refusal>>(
     output: &mut W,

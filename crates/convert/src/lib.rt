@@ -46,6 +46,7 @@ impl Way {
 }
 
 // The number at the place k in the second layout, by the sheet's row in the first.
+// Stays: no plainer. This and the next are each the other's way: three numbers a segment by two, with the open lanes of the road, and two by three.
 #[tactic(auto, unfolding(crate::specs::Sheet::number_in_second))]
 fn number_in_second(road: &[u32; 452], first: &[u32; 452], k: usize) -> u32
     requires { k < 452 }

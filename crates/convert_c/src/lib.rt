@@ -15,7 +15,8 @@ pub extern "C" fn freeway_to_second(study: &[u8], target: &mut [u8], count: &mut
     convert::freeway_convert(Way::ToSecond, study, target, count)
 }
 
-// The same back to the first layout. Stays: the C interface. It has a function of its own for each way.
+// The same back to the first layout.
+// Stays: the C interface. It has a function of its own for each way.
 #[unsafe(no_mangle)]
 pub extern "C" fn freeway_to_first(study: &[u8], target: &mut [u8], count: &mut u64) -> u64
     ensures { record { refusal = result; count = count.new; target = target.new } ≡ export_of ToFirst study.now target.old }

@@ -24,7 +24,8 @@ pub struct Facility {
     pub partsteps: u64,
 }
 
-// Whether a cell is within what t steps can leave. Stays: no plainer. That t is at most 5,760 is what its products need, as in the tests below.
+// Whether a cell is within what t steps can leave.
+// Stays: no plainer. That t is at most 5,760 is what its products need, as in the tests below.
 #[tactic(auto, unfolding(crate::specs::Sound::cell_bounded))]
 fn is_cell_bounded(t: u32, cell: &Cell) -> bool
     requires { t ≤ 5760 }

@@ -46,7 +46,7 @@ pub fn bytes<'a>(word: &[u8], out: &'a mut [u8]) -> Result<&'a [u8], SpellingErr
     if out.len() < count {
         return Err(SpellingError::TooLong);
     }
-    // Stays: the proof did not close. Over `chunks_exact(2).enumerate()` what the buffer has by then has to be said of what the chunks have left.
+    // Stays: the proof did not close. Tried over `chunks_exact(2).enumerate()`, where what the buffer has by then has to be said of what the chunks have left.
     for n in 0..count {
         let Some(byte) = byte_of(word[2 * n], word[2 * n + 1]) else {
             return Err(SpellingError::NotHexadecimal);

@@ -50,7 +50,7 @@ pub fn read(bytes: &[u8], at: usize) -> Result<Number, Refusal>
     let mut scale: u32 = 1;
     let mut least: u32 = 0;
     let mut left: u32 = 4;
-    // Stays: no plainer. The rules name a loop that yields the number or its refusal by break, which no `for` does.
+    // Stays: a rule of the project. A loop yields the number or its refusal by break, which no `for` does.
     let got = loop {
         let Some(byte) = bytes.get(i) else {
             break Err(Refusal::Cut);

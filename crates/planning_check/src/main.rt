@@ -65,7 +65,7 @@ impl fmt::Display for Told {
 }
 
 // A carryover.
-// Stays: fixed memory. With no heap, a list is an array with its count beside it.
+// Stays: no plainer. A list of at most 65 numbers; the kit's `arrayvec` would be one crate more to build on, for it alone.
 #[derive(Clone, Copy)]
 struct Carryover {
     numbers: [u32; 65],

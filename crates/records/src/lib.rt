@@ -31,7 +31,7 @@ impl fmt::Display for Hexadecimal<'_> {
 }
 
 // The place of the first byte outside a part of a buffer that is not what the buffer was filled with.
-// Stays: no plainer. `position` tells its closure no place, and over `enumerate` the place would have to be taken out of a pair again.
+// Stays: no plainer. `position` tells its closure no place, and a `find` over the places would index the buffer by hand.
 fn altered_at(buffer: &[u8], fill: u8, at: usize, count: usize) -> Option<usize>
     ensures { MatchOption result
         ((k : ℕ) → k < length buffer.now → IsOutside at count k → slice_index buffer.now k ≡ fill)
@@ -46,6 +46,7 @@ fn altered_at(buffer: &[u8], fill: u8, at: usize, count: usize) -> Option<usize>
 }
 
 // Tells where a filled buffer is altered outside a part that was to be written.
+// Stays: no plainer. The part is told by its place and its count, as a writing is asked for and answers.
 pub fn say_altered<W: Write>(
     output: &mut W,
     buffer: &[u8],

@@ -47,6 +47,7 @@ fn say_sheet<W: Write, L: Fn(u32) -> Layout>(
 }
 
 // The numbers of a sheet that was read, zeros of one that was refused.
+// Stays: no plainer. A refused road is one of zeros, so that every record has its answer.
 fn row_of(sheet: Result<Sheet, Refused>) -> [u32; 452] {
     sheet.map_or([0; 452], |sheet| sheet.numbers)
 }
@@ -137,6 +138,7 @@ fn read_period<W: Write, L: Fn(u32) -> Layout>(
     Some(say_sheet(output, sheet, layout))
 }
 
+// Stays: no plainer. Writing a road is as short and has no road behind its bytes; one for both would take the way of reading.
 fn write_period<W: Write>(output: &mut W, word: &[u8], rest: &[u8]) -> Option<io::Result<()>> {
     let (road, rest) = text::next_word(rest)?;
     let road = road_of(road)?;

@@ -105,7 +105,7 @@ pub fn number(word: &[u8]) -> Option<u32>
 }
 
 // Whether two words are the same.
-// Stays: no plainer where the bytes are not named by a match; its promise, that each byte decides, is one of docs/TRACE.
+// Stays: no plainer. Words that are compared and not matched are compared here, and that each byte decides is a promise of docs/TRACE.
 pub fn same(a: &[u8], b: &[u8]) -> bool
     ensures { result ≡ same_word a.now b.now }
 {

@@ -17,7 +17,8 @@ fn begin(road: &[u8], period: &[u8]) -> Facility
     f
 }
 
-// The n that a report tells, 0 of one that is refused. Stays: the C interface. What is timed answers one number.
+// The n that a report tells, 0 of one that is refused.
+// Stays: the C interface. What is timed answers one number, here and at the end of the steps.
 fn reported_n(f: &Facility, segment: u32) -> u32
     ensures { result ≡ (report_of f.now segment).n }
 {

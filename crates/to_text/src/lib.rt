@@ -140,7 +140,7 @@ fn complain<W: Write>(errors: &mut W, what: &str) {
 
 fn say_or_complain<W: Write, E: Write>(output: &mut W, errors: &mut E, bytes: &[u8]) {
     let read = sheets::read_road(bytes);
-    // a road that is refused has no numbers, and its ranges ask for none
+    // Stays: no plainer. A road that is refused has no numbers, and its ranges ask for none.
     let road = read.map_or([0; 452], |sheet| sheet.numbers);
     let refused = check::study(bytes, read).err();
     if say_study(output, bytes, &road, refused).is_err() {
