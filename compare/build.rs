@@ -10,7 +10,9 @@ fn main() {
         println!("cargo::rerun-if-changed={}", library.display());
         if !library.exists() {
             println!("cargo::error=the engine's library target/staticlib/lib{name}.a is missing");
-            println!("cargo::error=make it first: run `./build study_c convert_c timing` in the repository's root");
+            println!(
+                "cargo::error=make it first: run `./build study_c convert_c timing calls` in the repository's root"
+            );
         }
         println!("cargo::rustc-link-lib=static={name}");
     }

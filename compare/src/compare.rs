@@ -1,6 +1,7 @@
 //! The comparison: many random studies, each given to the engine, to the model, to the idiomatic and to the tuned version.
 
 pub mod conversions;
+pub mod lists;
 
 use crate::model::facility::Facility;
 use crate::model::sheets::Refusal;
@@ -90,7 +91,7 @@ fn each(
     layout: impl Fn(u64) -> Layout,
     mut compared: impl FnMut(u64, &[u8]) -> Result<(), String>,
 ) -> bool {
-    let mut shown = Instant::now();
+    let mut progress = Progress::new();
     let mut seeds = Random::new(seed);
     for made in 0..count {
         let study = random::study(seeds.within(0, u64::MAX - 1), layout(made));
@@ -99,12 +100,27 @@ fn each(
             println!("{difference}");
             return false;
         }
-        if shown.elapsed() > Duration::from_secs(5) {
-            println!("  {} studies, all equal so far", made + 1);
-            shown = Instant::now();
-        }
+        progress.tell(made + 1, "studies");
     }
     true
+}
+
+/// Shows now and then how far a comparison is.
+struct Progress {
+    shown: Instant,
+}
+
+impl Progress {
+    fn new() -> Progress {
+        Progress { shown: Instant::now() }
+    }
+
+    fn tell(&mut self, count: u64, of: &str) {
+        if self.shown.elapsed() > Duration::from_secs(5) {
+            println!("  {count} {of}, all equal so far");
+            self.shown = Instant::now();
+        }
+    }
 }
 
 /// Holds the engine, the idiomatic and the tuned version against what is expected of a study.
@@ -140,10 +156,30 @@ fn hex(bytes: &[u8]) -> String {
 #[cfg(test)]
 mod tests {
     use super::*;
+    use crate::model::sheets::Entry;
 
     #[test]
     fn the_timed_versions_agree_with_the_model() {
         let layout = |_| Layout::OFTEN_CLOSED;
         assert!(each(1, 5_000, layout, |_, study| timed_versions_give(study, &model::forecast(study))));
+    }
+
+    /// Both totals of each segment of a study by the model, none where it is refused.
+    fn totals(study: &[u8]) -> Option<Vec<(u64, u64)>> {
+        let facility = model::run::<Entry>(study).ok()?;
+        let reports = (1..=facility.segments()).filter_map(|i| facility.report(i).ok());
+        Some(reports.map(|report| (report.total_off, report.total_y)).collect())
+    }
+
+    #[test]
+    fn the_timed_versions_keep_the_models_totals() {
+        let layout = |_| Layout::OFTEN_CLOSED;
+        assert!(each(2, 2_000, layout, |_, study| {
+            let expected = totals(study);
+            match idiomatic::totals(study) == expected && tuned::totals(study) == expected {
+                true => Ok(()),
+                false => Err("the totals differ".into()),
+            }
+        }));
     }
 }

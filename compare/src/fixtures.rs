@@ -3,15 +3,16 @@
 //! NAME.study and NAME.listing are a study's bytes and what `forecast` prints. NAME.trace has steps of that study: a line `period`
 //! with a sheet's numbers, then the state, the flows and the remainders after each of the first steps under it; the next sheet goes
 //! on from there.
-//! A .txt file is a list of calls on one road, a line each, `call arguments -> answer`; or of conversions, `to-second STUDY room
-//! BYTES -> ok CONVERTED` or `-> refused NUMBER PLACE`, and `to-first` as well.
+//! A .txt file is a list of calls on one road, a line each, `call arguments -> answer`, where a report ends with its totals; or of
+//! conversions, `to-second STUDY room BYTES -> ok CONVERTED` or `-> refused NUMBER PLACE`, and `to-first` as well.
 //!
 //! Files of a folder named `first` are of the first layout and by the first rules; their names stand by themselves.
 
+use crate::calls::{bytes, state_and_flows, told, Answer, Player};
 use crate::compare::{self, conversions};
 use crate::model::convert::Way;
-use crate::model::facility::{Facility, Report, Totals};
-use crate::model::sheets::{period_numbers, read_period, Entry, Layout, Refusal};
+use crate::model::facility::{Facility, Totals};
+use crate::model::sheets::{period_numbers, read_period, Entry, Layout};
 use crate::model::{self, first};
 use std::collections::BTreeMap;
 use std::fmt::Write;
@@ -146,49 +147,33 @@ fn stepped<E: Layout>(facility: &Facility<E>) -> String {
     let mut text = format!("step origin {origin} arrived {arrived} left {left} partsteps {part_steps}\n");
     for (i, remainder) in (1..).zip(facility.remainders()) {
         let report = facility.report(i).expect("the segment is there");
-        let _ = writeln!(text, "  {i} {} remainder {remainder}", reported(&report));
+        let _ = writeln!(text, "  {i} {} remainder {remainder}", state_and_flows(&report));
     }
     text
 }
 
-fn reported(report: &Report) -> String {
-    let Report { n, q, f, r, off, y, letter } = report;
-    format!("n {n} q {q} f {f} r {r} off {off} y {y} {}", char::from(*letter))
-}
-
-/// The list of calls once more, with the model's answers. Without an accepted laying the facility is the empty one.
+/// The list of calls once more, with the model's answers.
 fn answers<E: Layout>(list: &str) -> Result<String, String> {
     let mut text = String::new();
-    let mut facility: Option<Facility<E>> = None;
+    let mut player = Player::<E>::new();
     for line in list.lines() {
-        let (call, _) = line.split_once(" -> ").ok_or(format!("`{line}` has no answer"))?;
-        let (name, argument) = call.split_once(' ').unwrap_or((call, ""));
-        let answer = if name == "lay" {
-            facility = None;
-            Facility::lay(&bytes(argument)?).map(|(laid, used)| {
-                facility = Some(laid);
-                format!("ok used {used}")
-            })
-        } else if let Some(facility) = &mut facility {
-            answer(facility, name, argument)?
-        } else {
-            Err(Refusal::plain(9))
-        };
-        let _ = writeln!(text, "{call} -> {}", told(answer));
+        let call = call_of(line)?;
+        let _ = writeln!(text, "{call} -> {}", told(&player.play(&call.parse()?)));
     }
     Ok(text)
 }
 
-/// An answer, or the refusal in its place.
-fn told(answer: Result<String, Refusal>) -> String {
-    answer.unwrap_or_else(|Refusal { number, offset }| format!("refused {number} {offset}"))
+/// What stands before a line's answer.
+fn call_of(line: &str) -> Result<&str, String> {
+    let (call, _) = line.split_once(" -> ").ok_or(format!("`{line}` has no answer"))?;
+    Ok(call)
 }
 
 /// The list of conversions once more, with the model's answers, where the engine's are the same.
 fn converted(list: &str) -> Result<String, String> {
     let mut text = String::new();
     for line in list.lines() {
-        let (call, _) = line.split_once(" -> ").ok_or(format!("`{line}` has no answer"))?;
+        let call = call_of(line)?;
         let words: Vec<&str> = call.split(' ').collect();
         let (way, study, room) = match words[..] {
             ["to-second", study, "room", room] => (Way::ToSecond, study, room),
@@ -196,42 +181,10 @@ fn converted(list: &str) -> Result<String, String> {
             _ => return Err(format!("`{call}` is no conversion")),
         };
         let room = room.parse().map_err(|_| format!("`{room}` is no number"))?;
-        let answer = conversions::alike(way, &bytes(study)?, room)?;
-        let _ = writeln!(text, "{call} -> {}", told(answer.map(|bytes| format!("ok {}", hex(&bytes)))));
+        let answer = conversions::alike(way, &bytes(study)?, room)?.map(Answer::Written);
+        let _ = writeln!(text, "{call} -> {}", told(&answer));
     }
     Ok(text)
-}
-
-/// One call's answer; an error is a call that cannot be read.
-fn answer<E: Layout>(
-    facility: &mut Facility<E>,
-    name: &str,
-    argument: &str,
-) -> Result<Result<String, Refusal>, String> {
-    let number = || argument.parse::<u64>().map_err(|_| format!("`{argument}` is no number"));
-    Ok(match name {
-        "take" => facility.take(&bytes(argument)?).map(|used| format!("ok used {used}")),
-        "run" => facility.run(number()?).map(|()| "ok".into()),
-        "report" => facility.report(number()?).map(|report| format!("ok {}", reported(&report))),
-        "totals" => {
-            let t = facility.totals();
-            Ok(format!("ok arrived {} left {} stored {} partsteps {}", t.arrived, t.left, t.stored, t.part_steps))
-        }
-        "write-road" => Ok(format!("ok {}", hex(&facility.write_road()))),
-        "write-period" => facility.write_period().map(|bytes| format!("ok {}", hex(&bytes))),
-        _ => return Err(format!("`{name}` is no call")),
-    })
-}
-
-fn bytes(text: &str) -> Result<Vec<u8>, String> {
-    let digits = if text == "-" { "" } else { text };
-    let pair = |i| digits.get(i..i + 2).and_then(|pair| u8::from_str_radix(pair, 16).ok());
-    let bytes: Option<Vec<u8>> = (0..digits.len()).step_by(2).map(pair).collect();
-    bytes.ok_or(format!("`{text}` is not bytes in hexadecimal"))
-}
-
-fn hex(bytes: &[u8]) -> String {
-    bytes.iter().map(|byte| format!("{byte:02x}")).collect()
 }
 
 #[cfg(test)]

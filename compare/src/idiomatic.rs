@@ -1,5 +1,5 @@
 //! The engine's job in idiomatic Rust: what the engine is timed against. Each rule is a method by its closed form, a step is
-//! one pass over the segments, every cell keeps the last step's flows for reports; nothing is tuned beyond that.
+//! one pass over the segments, every cell keeps the last step's flows and the totals for reports; nothing is tuned beyond that.
 
 use crate::model::sheets::{read_period, read_road, Entry, Period, Refusal, Road, Segment};
 use crate::outcome::{Forecast, Outcome, Standing};
@@ -10,6 +10,13 @@ pub fn forecast(study: &[u8]) -> Outcome {
         Ok(facility) => Outcome::Forecast(facility.forecast()),
         Err(Refusal { number, offset }) => Outcome::Refused { number, place: offset as u64 },
     }
+}
+
+/// Both totals of each segment of a study, none where it is refused.
+#[cfg(test)]
+pub fn totals(study: &[u8]) -> Option<Vec<(u64, u64)>> {
+    let facility = run(study).ok()?;
+    Some(facility.cells.iter().map(|cell| (cell.total_off, cell.total_out)).collect())
 }
 
 fn run(study: &[u8]) -> Result<Facility, Refusal> {
@@ -31,7 +38,7 @@ fn run(study: &[u8]) -> Result<Facility, Refusal> {
     Ok(facility)
 }
 
-/// A segment's state, with the last step's flows as a report would show them.
+/// A segment's state, with the last step's flows and both totals as a report would show them.
 #[derive(Clone, Copy, Default)]
 #[allow(dead_code)]
 struct Cell {
@@ -42,6 +49,8 @@ struct Cell {
     off: u64,
     out: u64,
     remainder: u64,
+    total_off: u64,
+    total_out: u64,
 }
 
 #[derive(Clone, Copy)]
@@ -154,6 +163,8 @@ impl Facility {
                 off: due / 1000,
                 out,
                 remainder: due % 1000,
+                total_off: cell.total_off + due / 1000,
+                total_out: cell.total_out + out,
             };
             left += due / 1000;
             inflow = ahead;

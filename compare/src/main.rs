@@ -1,7 +1,8 @@
-//! Compares the forecast engine with an independent model of documents 01 and 02 (Q-1 to Q-3), and times it against two versions in
+//! Compares the forecast engine with an independent model of documents 01 and 02 (Q-1 to Q-4), and times it against two versions in
 //! Rust.
 
 mod bench;
+mod calls;
 mod compare;
 mod engine;
 mod fixtures;
@@ -15,38 +16,52 @@ use std::path::PathBuf;
 use std::process::ExitCode;
 
 const SEED: u64 = 1;
-const STUDIES: u64 = 300_000;
+const COUNT: u64 = 300_000;
 
 const USAGE: &str = "arguments:
-  [SEED [COUNT]]     compare random studies, then conversions of as many of either layout
-  check [FOLDER..]   check studies and their listings (../studies, ../studies/first), traces, lists of calls, conversions;
-                     what is in a folder named `first` is of the first layout
-  bench              time the engine against two versions in Rust";
+  [SEED [COUNT]]        compare random studies, then conversions of as many of either layout, then as many answers to lists of calls
+  lists [SEED [COUNT]]  compare answers to random lists of calls alone
+  check [FOLDER..]      check studies and their listings (../studies, ../studies/first), traces, lists of calls, conversions;
+                        what is in a folder named `first` is of the first layout
+  bench                 time the engine against two versions in Rust";
 
 fn main() -> ExitCode {
     let arguments: Vec<String> = std::env::args().skip(1).collect();
-    let numbers: Option<Vec<u64>> = arguments.iter().map(|argument| argument.parse().ok()).collect();
-    let well = match (arguments.first().map(String::as_str), numbers.as_deref()) {
-        (_, Some([])) => check(&[]) && compare(SEED, STUDIES),
-        (_, Some([seed])) => compare(*seed, STUDIES),
-        (_, Some([seed, count])) => compare(*seed, *count),
-        (Some("bench"), _) if arguments.len() == 1 => bench::run(),
-        (Some("check"), _) => check(&arguments[1..]),
-        _ => {
-            eprintln!("{USAGE}");
-            false
-        }
+    let words: Vec<&str> = arguments.iter().map(String::as_str).collect();
+    let well = match words[..] {
+        [] => check(&[]) && compare(SEED, COUNT),
+        ["bench"] => bench::run(),
+        ["check", ref folders @ ..] => check(folders),
+        ["lists", ref numbers @ ..] => by_numbers(numbers, compare::lists::run),
+        ref numbers => by_numbers(numbers, compare),
     };
     ExitCode::from(u8::from(!well))
 }
 
-/// Compares the forecasts of so many studies, then the conversions of as many of either layout.
+/// Makes a comparison by the seed and the count that are given, or else by the usual ones.
+fn by_numbers(words: &[&str], compare: fn(u64, u64) -> bool) -> bool {
+    let numbers: Option<Vec<u64>> = words.iter().map(|word| word.parse().ok()).collect();
+    match numbers.as_deref() {
+        Some([]) => compare(SEED, COUNT),
+        Some([seed]) => compare(*seed, COUNT),
+        Some([seed, count]) => compare(*seed, *count),
+        _ => {
+            eprintln!("{USAGE}");
+            false
+        }
+    }
+}
+
+/// Compares the forecasts of so many studies, then the conversions of as many of either layout, then as many answers to calls.
 fn compare(seed: u64, count: u64) -> bool {
-    compare::run(seed, count) && compare::conversions::run(seed, count)
+    compare::lists::program_is_made()
+        && compare::run(seed, count)
+        && compare::conversions::run(seed, count)
+        && compare::lists::run(seed, count)
 }
 
 /// Checks the files of the folders, by default the repository's studies.
-fn check(folders: &[String]) -> bool {
+fn check(folders: &[&str]) -> bool {
     let folders: Vec<PathBuf> = match folders {
         [] => fixtures::STUDIES.map(PathBuf::from).to_vec(),
         _ => folders.iter().map(PathBuf::from).collect(),

@@ -1,5 +1,5 @@
-//! A model of documents 01 and 02 (Q-1, closed lanes; Q-2, conversion; Q-3, the split's remainder), written from the documents
-//! alone and for reading, not for speed.
+//! A model of documents 01 and 02 (Q-1, closed lanes; Q-2, conversion; Q-3, the split's remainder; Q-4, the off-ramp's total),
+//! written from the documents alone and for reading, not for speed.
 
 pub mod convert;
 pub mod facility;
@@ -55,6 +55,7 @@ fn forecast_of<E: Layout>(facility: &Facility<E>) -> Forecast {
 #[cfg(test)]
 mod tests {
     use super::*;
+    use crate::random;
 
     const WORKED: [u8; 22] = [
         0x01, 0xBE, 0x01, 0x2D, 0x07, 0xA8, 0x0A, 0x02, 0x3C, 0xB0, 0x22, 0x00, 0x00, 0x00, // the road
@@ -93,5 +94,55 @@ mod tests {
             assert_eq!(facility.report(1).unwrap().off, off);
         }
         assert_eq!(Facility::<Entry>::lay(&road).unwrap().0.remainders(), [0]);
+    }
+
+    /// of all that left a segment so far, the off-ramp has exactly its share, rounded down, and the remainder is the rest.
+    fn totals_are_exact(facility: &Facility) {
+        let segments = facility.road().segments.iter().zip(facility.remainders());
+        for (i, (segment, &remainder)) in (1..).zip(segments) {
+            let report = facility.report(i).unwrap();
+            let due = report.total_y * segment.share;
+            assert_eq!((report.total_off, remainder), (due / 1000, due % 1000));
+        }
+    }
+
+    /// Runs a study step by step as far as its sheets are accepted, the totals looked at after each step.
+    fn run_with_exact_totals(study: &[u8]) -> Option<Facility> {
+        let (mut facility, mut start) = Facility::<Entry>::lay(study).ok()?;
+        while let Ok(used) = facility.take(&study[start..]) {
+            for _ in 0..60 {
+                facility.run(1).unwrap();
+                totals_are_exact(&facility);
+            }
+            start += used;
+        }
+        Some(facility)
+    }
+
+    #[test]
+    fn an_off_ramps_total_is_exact_after_each_step() {
+        let (mut runs, mut with_remainder) = (0, 0);
+        // every style is among so many
+        for study in (0..1_000).map(|seed| random::study(seed, random::Layout::OFTEN_CLOSED)) {
+            if let Some(facility) = run_with_exact_totals(&study).filter(|facility| facility.periods() > 1) {
+                runs += 1;
+                with_remainder += usize::from(facility.remainders().iter().any(|&remainder| remainder > 0));
+            }
+        }
+        assert!(runs > 300 && with_remainder > 200, "{runs} runs over periods, {with_remainder} with a remainder");
+    }
+
+    /// One part leaves a step, but for the first, and 333 of 1,000 take the off-ramp.
+    #[test]
+    fn totals_go_on_over_a_periods_end() {
+        let road = sheets::written(&[1, 190, 45, 7, 300, 1, 60, 2_000, 0, 333, 10]);
+        let period = sheets::written(&[1, 1, 20_000, 0, 0, 1]);
+        let (mut facility, _) = Facility::<Entry>::lay(&road).unwrap();
+        for (total_off, total_y) in [(19, 59), (39, 119), (59, 179)] {
+            facility.take(&period).unwrap();
+            facility.run(60).unwrap();
+            let report = facility.report(1).unwrap();
+            assert_eq!((report.total_off, report.total_y), (total_off, total_y));
+        }
     }
 }

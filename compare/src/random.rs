@@ -1,8 +1,11 @@
 //! Random studies of either layout: valid ones of every size, and ones damaged in every way that a refusal speaks of.
 
+pub mod calls;
+
 use crate::model::numbers;
 
 /// A small generator of random numbers (splitmix64), so that a seed gives the same studies everywhere.
+#[derive(Clone)]
 pub struct Random(u64);
 
 impl Random {
@@ -21,6 +24,11 @@ impl Random {
     /// A number from `low` to `high`, both included.
     pub fn within(&mut self, low: u64, high: u64) -> u64 {
         low + self.next() % (high - low + 1)
+    }
+
+    /// Another generator, that goes on by itself.
+    fn split(&mut self) -> Random {
+        Random(self.next())
     }
 
     /// True in `percent` of all cases.
@@ -99,6 +107,7 @@ const ODD_SHARES: [u64; 14] = [1, 1, 2, 7, 143, 250, 333, 333, 501, 667, 999, 99
 const OFF_CAPACITIES: [u64; 10] = [0, 0, 1, 1, 2, 3, 5, 12, 1_000, 10_000];
 
 /// A field's value with the range that its sheet allows.
+#[derive(Clone)]
 struct Field {
     value: u64,
     low: u64,
@@ -106,6 +115,7 @@ struct Field {
 }
 
 /// A study as fields, before it is written; `sheets` has the place of each sheet's first field, `lanes` the lanes of each segment.
+#[derive(Clone)]
 struct Fields {
     random: Random,
     layout: Layout,
@@ -116,6 +126,10 @@ struct Fields {
 }
 
 impl Fields {
+    fn new(random: Random, layout: Layout, style: Style) -> Fields {
+        Fields { random, layout, style, all: Vec::new(), sheets: Vec::new(), lanes: Vec::new() }
+    }
+
     /// Adds a field; `usual` and `small` are the ranges of two of the styles.
     fn add(&mut self, (low, high): (u64, u64), usual: (u64, u64), small: (u64, u64)) -> u64 {
         let mut style = self.style;
@@ -252,7 +266,7 @@ pub fn study(seed: u64, layout: Layout) -> Vec<u8> {
     let ns = segments(&mut random);
     let periods = periods(&mut random, ns);
     let style = random.pick(&STYLES);
-    let mut fields = Fields { random, layout, style, all: Vec::new(), sheets: Vec::new(), lanes: Vec::new() };
+    let mut fields = Fields::new(random, layout, style);
     fields.road(ns);
     for _ in 0..periods {
         fields.period(ns);

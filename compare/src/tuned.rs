@@ -3,7 +3,8 @@
 //! Whatever a step needs that does not change from step to step is worked out once: by the road, by the period, and what
 //! depends on the open lanes when their number changes. A step is one pass over the segments, the two "largest y" are
 //! closed forms, and no division but by constants is made whose result is known beforehand, nor one for the remainder after the
-//! step. Off(y) is always formed, by a product and a constant division, also where there is no share.
+//! step. Off(y) is always formed, by a product and a constant division, also where there is no share. A segment's two totals are
+//! two additions where it lets out; of the last step's flows nothing is kept.
 
 use crate::outcome::{Forecast, Outcome, Standing};
 use std::hint::black_box;
@@ -20,8 +21,15 @@ pub fn forecast(study: &[u8]) -> Outcome {
 /// Runs a study, then reports so many times, on its segments in turn: the sum of their n.
 pub fn reports(study: &[u8], times: usize) -> u64 {
     let Ok(facility) = run(study) else { return 0 };
-    let report = |i: usize| black_box(black_box(&facility.segments[i % facility.segments.len()]).standing()).n;
+    let report = |i: usize| black_box(black_box(&facility.segments[i % facility.segments.len()]).report()).0.n;
     (0..times).map(report).sum()
+}
+
+/// Both totals of each segment of a study, none where it is refused.
+#[cfg(test)]
+pub fn totals(study: &[u8]) -> Option<Vec<(u64, u64)>> {
+    let facility = run(study).ok()?;
+    Some(facility.segments.iter().map(|segment| (segment.total_off, segment.total_y)).collect())
 }
 
 fn run(study: &[u8]) -> Result<Facility, Refusal> {
@@ -128,6 +136,8 @@ struct Segment {
     n: u64,
     q: u64,
     remainder: u64,
+    total_off: u64,
+    total_y: u64,
 }
 
 /// A segment whose outflow waits for the next node's.
@@ -245,6 +255,8 @@ impl Segment {
             n: 0,
             q: 0,
             remainder: 0,
+            total_off: 0,
+            total_y: 0,
         };
         segment.open_lanes(lanes, common);
         Ok(segment)
@@ -318,6 +330,11 @@ impl Segment {
         }
     }
 
+    /// How the segment stands, what its off-ramp got in all, and all that left.
+    fn report(&self) -> (Standing, u64, u64) {
+        (self.standing(), self.total_off, self.total_y)
+    }
+
     fn standing(&self) -> Standing {
         Standing { n: self.n, q: self.q, letter: self.letter() }
     }
@@ -340,7 +357,10 @@ impl Leaving<'_> {
     fn let_out(self, let_in: u64) -> u64 {
         let Leaving { segment, most, through } = self;
         let leaving = if let_in == through { most } else { segment.held_back(most, through, let_in) };
+        let off = leaving - let_in;
         segment.n -= leaving;
-        leaving - let_in
+        segment.total_off += off;
+        segment.total_y += leaving;
+        off
     }
 }

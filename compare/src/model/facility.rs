@@ -14,6 +14,10 @@ pub struct Facility<E = Entry> {
     road_in_force: Road,
     state: State,
     last: Flows,
+    /// What left each segment by its off-ramp in all steps, the sum of their off(y).
+    total_off: Vec<u64>,
+    /// All that left each segment, the sum of their y.
+    total_y: Vec<u64>,
     /// The sheet in force with the steps made under it.
     in_force: Option<(Period<E>, u64)>,
     taken: u64,
@@ -22,6 +26,7 @@ pub struct Facility<E = Entry> {
     part_steps: u64,
 }
 
+#[derive(Clone, Debug)]
 pub struct Report {
     pub n: u64,
     pub q: u64,
@@ -30,8 +35,13 @@ pub struct Report {
     pub off: u64,
     pub y: u64,
     pub letter: u8,
+    /// All off(y) since the laying
+    pub total_off: u64,
+    /// All y since the laying
+    pub total_y: u64,
 }
 
+#[derive(Clone, Debug)]
 pub struct Totals {
     pub arrived: u64,
     pub left: u64,
@@ -49,6 +59,8 @@ impl<E: Layout> Facility<E> {
             road,
             state: State::fresh(ns),
             last: Flows::none(ns),
+            total_off: vec![0; ns],
+            total_y: vec![0; ns],
             in_force: None,
             taken: 0,
             arrived: 0,
@@ -92,6 +104,8 @@ impl<E: Layout> Facility<E> {
             self.arrived += period.demand + period.entries.iter().map(E::ramp_demand).sum::<u64>();
             self.left += self.last.f[self.road.segments.len()] + self.last.off.iter().sum::<u64>();
             self.part_steps += self.arrived - self.left;
+            add(&mut self.total_off, &self.last.off);
+            add(&mut self.total_y, &self.last.y);
             *made += 1;
         }
         Ok(())
@@ -112,6 +126,8 @@ impl<E: Layout> Facility<E> {
             off: self.last.off[i],
             y: self.last.y[i],
             letter: step::letter(segment, self.state.n[i]),
+            total_off: self.total_off[i],
+            total_y: self.total_y[i],
         })
     }
 
@@ -127,6 +143,11 @@ impl<E: Layout> Facility<E> {
     /// How many period sheets were taken.
     pub fn periods(&self) -> u64 {
         self.taken
+    }
+
+    /// How many steps remain under the sheet in force.
+    pub fn remaining(&self) -> u64 {
+        self.in_force.as_ref().map_or(0, |(_, made)| STEPS_OF_A_PERIOD - made)
     }
 
     /// NS
@@ -160,12 +181,29 @@ impl<E: Layout> Facility<E> {
         self.state.o
     }
 
-    pub fn write_road(&self) -> Vec<u8> {
-        sheets::write_road(&self.road)
+    /// The road's bytes, where a buffer of `room` bytes has room for them from `place` on.
+    pub fn write_road(&self, room: u64, place: u64) -> Result<Vec<u8>, Refusal> {
+        fitting(sheets::write_road(&self.road), room, place)
     }
 
-    pub fn write_period(&self) -> Result<Vec<u8>, Refusal> {
+    /// The bytes of the sheet in force, in the same way.
+    pub fn write_period(&self, room: u64, place: u64) -> Result<Vec<u8>, Refusal> {
         let (period, _) = self.in_force.as_ref().ok_or(Refusal::plain(10))?;
-        Ok(sheets::write_period(period))
+        fitting(sheets::write_period(period), room, place)
+    }
+}
+
+/// Adds a step's flows to their sums, segment by segment.
+fn add(sums: &mut [u64], flows: &[u64]) {
+    for (sum, flow) in sums.iter_mut().zip(flows) {
+        *sum += flow;
+    }
+}
+
+/// The sheet's bytes; 7 where the buffer from the place on is shorter, or the place past its end.
+fn fitting(bytes: Vec<u8>, room: u64, place: u64) -> Result<Vec<u8>, Refusal> {
+    match place + bytes.len() as u64 <= room {
+        true => Ok(bytes),
+        false => Err(Refusal::plain(7)),
     }
 }

@@ -48,8 +48,8 @@ fn report<W: Write>(output: &mut W, f: &Facility, rest: &[u8]) -> Option<io::Res
     Some(match facility::report(f, records::only_number(rest)?) {
         Ok(r) => write!(
             output,
-            "ok n {} q {} f {} r {} off {} y {} {}",
-            r.n, r.q, r.main, r.ramp, r.off, r.out, r.level
+            "ok n {} q {} f {} r {} off {} y {} {} total-off {} total-y {}",
+            r.n, r.q, r.main, r.ramp, r.off, r.out, r.level, r.tally.off, r.tally.out
         ),
         Err(refusal) => say_refused(output, refusal),
     })

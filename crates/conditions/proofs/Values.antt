@@ -1,12 +1,18 @@
--- Laws of lists of a function's values.
+-- Laws of lists of a function's values, and of one value.
 use Prim.Native.Nat.{ℕ, zero, suc, ◌+◌, ◌<◌}
 use mathlib.Core.List.{List, [], ◌∷◌, ◌++◌, map}
 use mathlib.Core.Path.{◌≡◌, refl, sym}
 use native.Mathlib.Omega.{arith}
-use lib.ListN.{length, get_or, set, take}
+use lib.ListN.{length, get_or, set, take, replicate}
 use Rattle.std.proofs.Common.{add-one}
 use Rattle.std.proofs.lemmas.List.{take_more_set, map_push}
 use Rattle.conditions.specs.Values.{values_to}
+
+-- a list of one value, read anywhere
+pub replicated : {A : Type 0} (x : A) (n i : ℕ) → get_or (replicate n x) i x ≡ x
+replicated x zero i = refl
+replicated x (suc n) zero = refl
+replicated x (suc n) (suc i) = replicated x n i
 
 -- read by index
 pub values_at : {A : Type 0} (g : ℕ → A) (k i : ℕ) (d : A) → i < k → get_or (values_to g k) i d ≡ g i

@@ -17,7 +17,7 @@ use Rattle.convert.proofs.Rows.{at_place}
 use Rattle.sheets.specs.Read.{read_row, read_period, read_first_period, padded}
 use Rattle.sheets.specs.Write.{row_bytes}
 use Rattle.sheets.proofs.Round.{row_ranged}
-use Rattle.conditions.proofs.Values.{values_same}
+use Rattle.conditions.proofs.Values.{replicated, values_same}
 use Rattle.convert.specs.declared.Way.{Way}
 use Rattle.convert.specs.declared.Way.TheVariants.{ToSecond, ToFirst}
 use Rattle.numbers.specs.Filled.{filled}
@@ -26,13 +26,8 @@ use Rattle.convert.specs.Sheet.{layout_from, number_in_second, number_in_first, 
 use Rattle.convert.proofs.Closed.{period_few}
 
 -- ---- zeros after a row do not matter
-zeros_at : (m k : ℕ) → ◌≡◌ {A = ℕ} (get_or (replicate m 0) k 0) 0
-zeros_at zero k = refl
-zeros_at (suc m) zero = refl
-zeros_at (suc m) (suc k) = zeros_at m k
-
 with_zeros : (row : List ℕ) (m k : ℕ) → get_or (row ++ replicate m 0) k 0 ≡ get_or row k 0
-with_zeros [] m k = zeros_at m k
+with_zeros [] m k = replicated 0 m k
 with_zeros (v ∷ row) m zero = refl
 with_zeros (v ∷ row) m (suc k) = with_zeros row m k
 

@@ -11,13 +11,15 @@ use Rattle.parts.proofs.Allowed.{all_at, all_by, both}
 use Rattle.parts.specs.Good.{GoodRoad, GoodPeriod}
 use Rattle.parts.proofs.Good.{good_road, good_period}
 use Rattle.segment.specs.declared.Cell.{Cell}
-use Rattle.segment.specs.Bounded.{BoundedCell}
+use Rattle.segment.specs.declared.tally.Tally.{Tally}
+use Rattle.segment.specs.Bounded.{BoundedCell, BoundedTally}
 use Rattle.steps.specs.declared.State.{State}
 use Rattle.steps.specs.Step.{cell_in}
-use Rattle.steps.specs.Bounded.{Bounded}
+use Rattle.steps.specs.Tallies.{tally_in}
+use Rattle.steps.specs.Bounded.{Bounded, BoundedTallies}
 use Rattle.door.specs.declared.Facility.{Facility}
 use Rattle.conditions.specs.Conditions.{segments}
-use Rattle.door.specs.Sound.{steps_by, counted, sheeted, cell_bounded, state_bounded, sums_bounded, sound}
+use Rattle.door.specs.Sound.{steps_by, counted, sheeted, cell_bounded, state_bounded, tally_bounded, tallies_bounded, sums_bounded, sound}
 
 -- the sums after t steps
 pub record BoundedSums (t arrived left partsteps : ℕ) : Type 0 where
@@ -32,6 +34,7 @@ pub record Sound (f : Facility) : Type 0 where
   pub short : f.made ≤ 60
   pub sheet : sheeted f.taken f.road f.period ≡ true
   pub bounds : Bounded (segments f.road) (steps_by f.taken f.made) f.state
+  pub tallies : BoundedTallies (segments f.road) (steps_by f.taken f.made) f.tallies
   pub sums : BoundedSums (steps_by f.taken f.made) f.arrived f.left f.partsteps
 
 -- ---- the parts of the test
@@ -58,6 +61,24 @@ bounded_state ns t state b =
     let each : (i : ℕ) → i < ns → cell_bounded t (cell_in state i) ≡ true = λ i h. bounded_cell t (cell_in state i) (b.cells i h) in
     rw (all_by (λ i. cell_bounded t (cell_in state i)) ns each, le-leb _ _ b.origin)
 
+tally_bounded_lem : (t : ℕ) (x : Tally) → tally_bounded t x ≡ true → BoundedTally t x
+unfolding tally_bounded
+tally_bounded_lem t x e =
+    let b = both (leb x.off (10000 * t)) (leb x.out (20000 * t)) e in
+    record { off = leb-true _ _ b.0; out = leb-true _ _ b.1 }
+
+bounded_tally : (t : ℕ) (x : Tally) → BoundedTally t x → tally_bounded t x ≡ true
+unfolding tally_bounded
+bounded_tally t x b = rw (le-leb _ _ b.off, le-leb _ _ b.out)
+
+pub tallies_bounded_lem : (ns t : ℕ) (tallies : List Tally) → tallies_bounded ns t tallies ≡ true → BoundedTallies ns t tallies
+unfolding tallies_bounded
+tallies_bounded_lem ns t tallies e = λ i h. tally_bounded_lem t (tally_in tallies i) (all_at (λ i. tally_bounded t (tally_in tallies i)) ns i e h)
+
+pub bounded_tallies : (ns t : ℕ) (tallies : List Tally) → BoundedTallies ns t tallies → tallies_bounded ns t tallies ≡ true
+unfolding tallies_bounded
+bounded_tallies ns t tallies b = all_by (λ i. tally_bounded t (tally_in tallies i)) ns (λ i h. bounded_tally t (tally_in tallies i) (b i h))
+
 pub sums_bounded_lem : (t a l p : ℕ) → sums_bounded t a l p ≡ true → BoundedSums t a l p
 unfolding sums_bounded
 sums_bounded_lem t a l p e =
@@ -78,19 +99,21 @@ is_sound f e =
     let n = both (leb f.taken 96) (leb f.made 60) b.0 in
     let c = both (sheeted f.taken f.road f.period) _ b.1 in
     let d = both (state_bounded (segments f.road) (steps_by f.taken f.made) f.state) _ c.1 in
+    let g = both (tallies_bounded (segments f.road) (steps_by f.taken f.made) f.tallies) _ d.1 in
     record {
       road = a.0;
       few = leb-true _ _ n.0;
       short = leb-true _ _ n.1;
       sheet = c.0;
       bounds = state_bounded_lem _ _ _ d.0;
-      sums = sums_bounded_lem _ _ _ _ d.1;
+      tallies = tallies_bounded_lem _ _ _ g.0;
+      sums = sums_bounded_lem _ _ _ _ g.1;
     }
 
 pub sound_is : (f : Facility) → Sound f → sound f ≡ true
 unfolding sound counted
 sound_is f s =
-    rw (s.road, le-leb _ _ s.few, le-leb _ _ s.short, s.sheet, bounded_state _ _ _ s.bounds, bounded_sums _ _ _ _ s.sums)
+    rw (s.road, le-leb _ _ s.few, le-leb _ _ s.short, s.sheet, bounded_state _ _ _ s.bounds, bounded_tallies _ _ _ s.tallies, bounded_sums _ _ _ _ s.sums)
 
 -- what the first two parts say
 pub counts : (taken made : ℕ) → counted taken made ≡ true → (taken ≤ 96) × (made ≤ 60)

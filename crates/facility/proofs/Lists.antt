@@ -1,6 +1,6 @@
 -- THE THEOREM: `ListStatement` holds of every list of calls on every accepted road, with any arguments, in any order, refused ones and the
 -- empty list included.
-use Prim.Native.Nat.{ℕ, ◌≤◌}
+use Prim.Native.Nat.{ℕ, ◌≤◌, ◌<◌}
 use mathlib.Core.Bool.{true}
 use mathlib.Core.Path.{◌≡◌, refl, sym, ap, ◌∙◌, subst}
 use mathlib.Core.List.{List, [], ◌∷◌}
@@ -13,14 +13,18 @@ use Rattle.sheets.specs.Read.{read_road, padded, sheet_reading}
 use Rattle.sheets.proofs.Refusals.{road_refusal}
 use Rattle.conditions.specs.Conditions.{segments}
 use Rattle.steps.specs.Step.{stored_of}
+use Rattle.steps.specs.Tallies.{tally_in}
+use Rattle.door.proofs.Sound.{few_segments}
 use Rattle.door.specs.declared.Facility.{Facility}
 use Rattle.facility.specs.declared.Laid as code
 use Rattle.door.specs.Sound.{sound}
 use Rattle.facility.specs.Calls.{Reply, ReportReply, SumsReply, laid_by, lay_of, take_of, run_of, report_of, totals_of}
-use Rattle.facility.specs.Ledger.{Call, Take, Run, Report, Totals, Answer, Book, Rules, present, take_by, opened, with_row, with_steps, with_run, answer, after_by, after, answers, book_after}
+use Rattle.facility.specs.Ledger.{Call, Take, Run, Report, Totals, Answer, tally_of, Book, Rules, present, take_by, opened, with_row, with_steps, with_run, answer, after_by, after, answers, book_after}
 use Rattle.facility.specs.Verdicts.{Verdict, GoesOn, RefusedBy, run_verdict}
 use Rattle.facility.specs.Statement.{ListStatement, AcceptedRoad, road_of}
 use Rattle.facility.specs.Answers.{take_says, run_says, report_says, totals_say}
+use Rattle.facility.specs.Claims.{Every}
+use Rattle.facility.proofs.Tallies.{OnRoad, tally_at, to_the_part, each_to_the_part}
 use Rattle.facility.proofs.Trail.{KeptBook, kept_opened, kept_after}
 use Rattle.facility.specs.View.{view}
 use Rattle.facility.proofs.OneCall.{view_opened, sound_view, takes, runs, reports, sums}
@@ -157,7 +161,8 @@ road_allowed_lem bytes a = rw (accepted_road bytes a) (read_road_allowed bytes a
 
 laid_view : (bytes : List ℕ) → AcceptedRoad bytes → (lay_of bytes).facility ≡ view (opened (road_of bytes))
 unfolding lay_of
-laid_view bytes a = rw (accepted_road bytes a) (ap (λ (q : Rows). (laid_by q).facility) a.2 ∙ view_opened (padded a.0))
+laid_view bytes a =
+    rw (accepted_road bytes a) (ap (λ (q : Rows). (laid_by q).facility) a.2 ∙ view_opened (padded a.0) (read_road_allowed bytes a.0 a.1 a.2))
 
 -- the statement from any facility that shows the opened book of a road
 pub theorem_from : {road : List ℕ} {cs : List Call} {xs : List Answer} {f g : Facility} → Shows (opened road) f → Calls f cs xs g → ListStatement road cs xs g
@@ -166,6 +171,10 @@ theorem_from {road} {cs} {xs} {f} {g} at calls =
     let kept = h.1.kept_book.kept in
     let shows : g ≡ view (book_after (opened road) cs) = h.1.is in
     let same = same_road_in (opened road) cs in
+    let trail = (book_after (opened road) cs).trail in
+    let few : segments road ≤ 64 = few_segments road (rw same at h.1.kept_book.road) in
+    let on_road : Every (OnRoad road) trail = rw same at kept.on_road in
+    let tallies : (i : ℕ) → i < segments road → tally_in g.tallies i ≡ tally_of trail i = λ i l. rw (shows, same) (tally_at (segments road) trail few i l) in
     record {
       answered = h.0;
       shows = shows;
@@ -177,6 +186,9 @@ theorem_from {road} {cs} {xs} {f} {g} at calls =
       balanced = kept.balanced;
       every_step = kept.right;
       chained = kept.chained;
+      tallies = tallies;
+      off_ramps = λ i l. rw (tallies i l, shows) (to_the_part road i l trail kept.right kept.chained on_road);
+      apportioned = each_to_the_part road trail kept.right kept.chained on_road;
       same_road = ap (λ (x : Facility). x.road) shows ∙ same;
       never_empty = ap sound shows ∙ sound_view (book_after (opened road) cs) h.1.kept_book;
     }

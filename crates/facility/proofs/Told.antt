@@ -15,6 +15,7 @@ use Rattle.sheets.specs.Read.{read_road, read_period}
 use Rattle.sheets.proofs.Refusals.{told_road, told_period}
 use Rattle.conditions.specs.Conditions.{segments}
 use Rattle.steps.specs.Step.{cell_in, stored_of}
+use Rattle.steps.specs.Tallies.{tally_in}
 use Rattle.door.specs.declared.Facility.{Facility}
 use Rattle.door.specs.Sound.{sound}
 use Rattle.facility.specs.declared.SegmentReport.{SegmentReport}
@@ -112,7 +113,7 @@ module _ (f : Facility) where
   reported_told : (i : ℕ) (v : Verdict) → ToldVerdict v → (r : Result SegmentReport Refusal) × (report_told r ≡ reported_by f i v)
   reported_told i GoesOn t =
       let c = cell_in f.state (i - 1) in
-      (Ok (record { n = c.n; q = c.q; main = c.main; ramp = c.ramp; off = c.off; out = c.out; level = level_at f (i - 1) }), refl)
+      (Ok (record { n = c.n; q = c.q; main = c.main; ramp = c.ramp; off = c.off; out = c.out; level = level_at f (i - 1); tally = tally_in f.tallies (i - 1) }), refl)
   reported_told i (RefusedBy number) t = (Err t.0, ap no_report t.1)
 
   report_by_door : (x : Bool) (i : ℕ) (v : Verdict) → ToldVerdict v

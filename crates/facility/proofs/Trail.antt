@@ -17,7 +17,9 @@ use Rattle.segment.specs.declared.Cell.{Cell}
 use Rattle.conditions.specs.Conditions.{Conditions, SheetInForce, None, Under, conditions_of, segments}
 use Rattle.steps.specs.Step.{cell_in, stepped, fresh_state, arrived_of, left_of, stored_of, sum_to}
 use Rattle.conditions.proofs.Good.{GoodSheet, none as none-sheet, under, good_conditions, conditions_segments}
-use Rattle.steps.specs.Bounded.{Bounded}
+use Rattle.steps.specs.Tallies.{tallied}
+use Rattle.steps.specs.Bounded.{Bounded, BoundedTallies}
+use Rattle.steps.proofs.Tallies.{tallied_bounded, bounded_fresh as tallies_fresh}
 use Rattle.steps.proofs.Laws.{stepped_length}
 use Rattle.steps.proofs.Bounds.{bounded_after, bounded_fresh, cell_fresh, arrived_most, left_most}
 use Rattle.steps.proofs.Claims.{stepped_holds}
@@ -26,21 +28,29 @@ use Rattle.facility.specs.Ledger.{Call, Take, Run, Report, Totals, Trail, state_
 use Rattle.facility.specs.Verdicts.{Verdict, GoesOn, RefusedBy, unfinished, run_verdict}
 use Rattle.facility.proofs.Verdicts.{take_accepted, run_accepted}
 use Rattle.facility.specs.Claims.{Every, none, and, Chained, start, link, Right, Balanced, nothing, still}
-use Rattle.door.proofs.Sound.{BoundedSums}
+use Rattle.facility.specs.View.{tallies_of}
+use Rattle.facility.proofs.Tallies.{OnRoad, on_road, no_tallies, tallies_more}
+use Rattle.door.proofs.Sound.{BoundedSums, few_segments}
 
--- the invariant of a trail on a road: its steps are right, and what it leaves is bounded
+-- the invariant of a trail on a road: its steps are right and made on that road, and what it leaves is bounded
 pub record KeptTrail (road : List ℕ) (t : Trail) : Type 0 where
   pub right : Every Right t
+  pub on_road : Every (OnRoad road) t
   pub chained : Chained t
   pub balanced : Balanced t
   pub cells : length (state_after t).cells ≡ 64
   pub bounds : Bounded (segments road) (length t) (state_after t)
+  pub tallies : BoundedTallies (segments road) (length t) (tallies_of (segments road) t)
   pub balance : arrived_in t ≡ left_in t + stored_of (segments road) (state_after t)
   pub sums : BoundedSums (length t) (arrived_in t) (left_in t) (partsteps_in t)
 
 length_more : (c : Conditions) (n : ℕ) (t : Trail) → length (more_steps c n t) ≡ length t + n
 length_more c zero t = omega arith
 length_more c (suc n) t = omega (arith, length_more c n t)
+
+pub cells_more : (c : Conditions) (n : ℕ) (t : Trail) → length (state_after (more_steps c n t)).cells ≡ length (state_after t).cells
+cells_more c zero t = refl
+cells_more c (suc n) t = stepped_length c (state_after (more_steps c n t)) ∙ cells_more c n t
 
 module _ (road : List ℕ) (good : GoodRoad road) where
   -- a step more
@@ -61,12 +71,16 @@ module _ (road : List ℕ) (good : GoodRoad road) where
       let kept : arrived_in t ≡ left_in t + stored_of c.segments state = rw n k.balance in
       let balance : arrived_in t + arrived_of c ≡ left_in t + left_of c.segments (stepped c state) + stored_of c.segments (stepped c state) =
       omega (arith, holds.balanced) in
+      let counted = tallied_bounded c state (tallies_of (segments road) t) force bounds (rw n k.tallies) in
       record {
         right = and holds k.right;
+        on_road = and (on_road road sheet t) k.on_road;
         chained = link refl k.chained;
         balanced = still balance k.balanced;
         cells = stepped_length c state ∙ k.cells;
         bounds = rw (← add-one (length t)) (subst (λ (m : ℕ). Bounded m (length t + 1) (stepped c state)) n (bounded_after c state force bounds));
+        tallies = rw (← add-one (length t), ← tallies_more c (segments road) t n good.segments.1 k.cells)
+            (subst (λ (m : ℕ). BoundedTallies m (length t + 1) (tallied c state (tallies_of (segments road) t))) n counted);
         balance = subst (λ (m : ℕ). arrived_in t + arrived_of c ≡ left_in t + left_of c.segments (stepped c state) + stored_of m (stepped c state)) n balance;
         sums = record {
           arrived_most = omega (arith, s.arrived_most);
@@ -102,14 +116,16 @@ unfolding sum_to
 zeros g zero h = refl
 zeros g (suc k) h = omega (arith, zeros g k h, h k)
 
-kept_fresh : (road : List ℕ) → KeptTrail road []
+kept_fresh : (road : List ℕ) → segments road ≤ 64 → KeptTrail road []
 unfolding arrived_in left_in partsteps_in stored_of
-kept_fresh road = record {
+kept_fresh road few = record {
   right = none;
+  on_road = none;
   chained = start;
   balanced = nothing;
   cells = refl;
   bounds = bounded_fresh (segments road);
+  tallies = rw (← no_tallies (segments road) few) (tallies_fresh (segments road));
   balance = omega (arith, zeros (λ i. (cell_in fresh_state i).n + (cell_in fresh_state i).q) (segments road) (λ i. ap (λ (c : Cell). c.n + c.q) (cell_fresh i)));
   sums = record { arrived_most = omega arith; left_most = omega arith; partsteps_most = omega arith };
 }
@@ -122,7 +138,7 @@ kept_opened road ok = record {
   short = omega arith;
   sheet = unsheeted;
   made = refl;
-  kept = kept_fresh road;
+  kept = kept_fresh road (few_segments road ok);
 }
 
 -- where no period is running, the next one starts where the last one ended

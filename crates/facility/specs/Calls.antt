@@ -1,14 +1,18 @@
--- Document 01, "Calls on a facility": what each call gives, as a whole, refused or not; beside a refusal the facility as it came.
+-- Document 01, "Calls on a facility", and document 02, Q-4, the report's totals: what each call gives, as a whole, refused or not; beside a refusal
+-- the facility as it came.
 use Rattle.std.specs.Prelude.{ℕ, ◌+◌, ◌-◌, List, replicate, if◌then◌else◌}
 use Rattle.numbers.specs.Writing.{Writing, Refused, write_answer, write_into}
 use Rattle.numbers.specs.Row.{Rows, ReadRow, RefusedAt}
 use Rattle.sheets.specs.Read.{read_road, read_period, padded}
 use Rattle.sheets.specs.Write.{row_bytes, road_row, period_row}
 use Rattle.segment.specs.declared.Cell.{Cell}
+use Rattle.segment.specs.declared.tally.Tally.{Tally}
+use Rattle.segment.specs.Tally.{no_tally}
 use Rattle.letters.specs.declared.Level.{Level}
 use Rattle.letters.specs.declared.Level.TheVariants.{A}
 use Rattle.conditions.specs.Conditions.{in_force_at, segments}
 use Rattle.steps.specs.Step.{cell_in, fresh_state, stored_of}
+use Rattle.steps.specs.Tallies.{fresh_tallies, tally_in}
 use Rattle.letters.specs.Level.{level_of}
 use Rattle.door.specs.declared.Facility.{Facility}
 use Rattle.facility.specs.Verdicts.{Verdict, GoesOn, RefusedBy, take_verdict, run_verdict, report_verdict, period_verdict}
@@ -22,7 +26,7 @@ pub record Reply : Type 0 where
   pub used : ℕ
   pub facility : Facility
 
--- what a segment report gives: n, q, the last step's f, r, off(y) and y, and the letter
+-- what a segment report gives: n, q, the last step's f, r, off(y) and y, the letter, and the segment's totals
 pub record ReportReply : Type 0 where
   pub refusal : ℕ
   pub n : ℕ
@@ -32,6 +36,7 @@ pub record ReportReply : Type 0 where
   pub off : ℕ
   pub out : ℕ
   pub level : Level
+  pub tally : Tally
 
 -- what totals give: arrived, left, stored and part-steps
 pub record SumsReply : Type 0 where
@@ -53,6 +58,7 @@ fresh_on road = record {
   taken = 0;
   made = 0;
   state = fresh_state;
+  tallies = fresh_tallies;
   arrived = 0;
   left = 0;
   partsteps = 0;
@@ -90,6 +96,7 @@ with_sheet f period = record {
   taken = f.taken + 1;
   made = 0;
   state = f.state;
+  tallies = f.tallies;
   arrived = f.arrived;
   left = f.left;
   partsteps = f.partsteps;
@@ -113,12 +120,13 @@ ran_by f k (RefusedBy number) = refused f number 0
 unfoldable pub run_of : Facility → ℕ → Reply
 run_of f k = unless_empty f (λ e. refused f e 0) (ran_by f k (run_verdict f.taken f.made k))
 
--- a report of a cell: n, q, the last step's f, r, off(y) and y, and the letter; a refused one has every number 0 and the letter A
-abbrev pub reported : Cell → Level → ReportReply
-reported c level = record { refusal = 0; n = c.n; q = c.q; main = c.main; ramp = c.ramp; off = c.off; out = c.out; level = level }
+-- a report of a cell: n, q, the last step's f, r, off(y) and y, the letter and the totals; a refused one has every number 0 and the letter A
+abbrev pub reported : Cell → Level → Tally → ReportReply
+reported c level tally =
+    record { refusal = 0; n = c.n; q = c.q; main = c.main; ramp = c.ramp; off = c.off; out = c.out; level = level; tally = tally }
 
 abbrev pub no_report : ℕ → ReportReply
-no_report number = record { refusal = number; n = 0; q = 0; main = 0; ramp = 0; off = 0; out = 0; level = A }
+no_report number = record { refusal = number; n = 0; q = 0; main = 0; ramp = 0; off = 0; out = 0; level = A; tally = no_tally }
 
 -- the letter of segment i, counted from 0, by the length and the lanes in force
 unfoldable pub level_at : Facility → ℕ → Level
@@ -126,7 +134,7 @@ level_at f i = level_of (cell_in f.state i).n (in_force_at (conditions_on f) i).
 
 -- by the verdict: the report, or the refusal
 abbrev pub reported_by : Facility → (segment : ℕ) → Verdict → ReportReply
-reported_by f i GoesOn = reported (cell_in f.state (i - 1)) (level_at f (i - 1))
+reported_by f i GoesOn = reported (cell_in f.state (i - 1)) (level_at f (i - 1)) (tally_in f.tallies (i - 1))
 reported_by f i (RefusedBy number) = no_report number
 
 -- Segment report, segments counted from 1: 9, then its verdict

@@ -1,9 +1,11 @@
--- Document 01, "The list statement": the ledger, worked out from the road and the calls' arguments alone. It names no facility.
+-- Document 01, "The list statement", and document 02, Q-4, the segments' totals: the ledger, worked out from the road and the calls' arguments
+-- alone. It names no facility.
 use Rattle.std.specs.Prelude.{ℕ, zero, suc, ◌+◌, ◌-◌, List, [], ◌∷◌, take}
 use Rattle.numbers.specs.Row.{Rows, ReadRow, RefusedAt}
 use Rattle.sheets.specs.Read.{read_period, padded}
 use Rattle.facility.specs.Verdicts.{Verdict, GoesOn, RefusedBy, take_verdict, run_verdict, report_verdict}
 use Rattle.segment.specs.declared.Cell.{Cell}
+use Rattle.segment.specs.declared.tally.Tally.{Tally}
 use Rattle.steps.specs.declared.State.{State}
 use Rattle.letters.specs.declared.Level.{Level}
 use Rattle.conditions.specs.declared.InForce.{InForce}
@@ -18,7 +20,7 @@ pub data Call : Type 0 where
   Report : ℕ → Call
   Totals : Call
 
--- what a segment report tells: n, q, and of the last step f, r, off(y) and y
+-- what a segment report tells of the state: n, q, and of the last step f, r, off(y) and y
 pub record Figures : Type 0 where
   pub n : ℕ
   pub q : ℕ
@@ -27,12 +29,12 @@ pub record Figures : Type 0 where
   pub off : ℕ
   pub out : ℕ
 
--- the calls' answers. A report: its figures and the letter. Totals: arrived, left, stored, part-steps
+-- the calls' answers. A report: its figures, the letter and the segment's totals. Totals: arrived, left, stored, part-steps
 pub data Answer : Type 0 where
   Refused : (number offset : ℕ) → Answer
   Taken : (used : ℕ) → Answer
   Ran : Answer
-  Reported : Figures → Level → Answer
+  Reported : Figures → Level → Tally → Answer
   Summed : (arrived left stored partsteps : ℕ) → Answer
 
 -- one step of the ledger: what was in force in it, the state at its start, the state and the flows at its end
@@ -62,6 +64,20 @@ left_in (s ∷ t) = left_in t + left_of s.conditions.segments s.after
 unfoldable pub partsteps_in : Trail → ℕ
 partsteps_in [] = 0
 partsteps_in (s ∷ t) = partsteps_in t + (arrived_in (s ∷ t) - left_in (s ∷ t))
+
+-- and of segment i: what left by its off-ramp, each step's own off(y)
+unfoldable pub off_in : Trail → (i : ℕ) → ℕ
+off_in [] i = 0
+off_in (s ∷ t) i = off_in t i + (cell_in s.after i).off
+
+-- all that left it, each step's own y
+unfoldable pub out_in : Trail → (i : ℕ) → ℕ
+out_in [] i = 0
+out_in (s ∷ t) i = out_in t i + (cell_in s.after i).out
+
+-- both, as a report tells them
+abbrev pub tally_of : Trail → (i : ℕ) → Tally
+tally_of t i = record { off = off_in t i; out = out_in t i }
 
 -- a step by the step rules under conditions, and k of them, each from the state that the one before left
 abbrev pub step_from : Conditions → State → Step
@@ -113,9 +129,9 @@ with_row b (RefusedAt number offset) = b
 abbrev pub figures_of : Cell → Figures
 figures_of cell = record { n = cell.n; q = cell.q; main = cell.main; ramp = cell.ramp; off = cell.off; out = cell.out }
 
--- a report of a segment: n, q and the last step's flows, and the letter by what is in force there
-abbrev pub report_in : Cell → InForce → Answer
-report_in cell here = Reported (figures_of cell) (level_of cell.n here.length here.lanes)
+-- a report of a segment: n, q and the last step's flows, the letter by what is in force there, and the totals
+abbrev pub report_in : Cell → InForce → Tally → Answer
+report_in cell here tally = Reported (figures_of cell) (level_of cell.n here.length here.lanes) tally
 
 -- the book with k steps more
 abbrev pub with_steps : Rules → ℕ → Book → Book
@@ -133,7 +149,8 @@ with_run rules b k (RefusedBy number) = b
 
 -- Segment report, by its verdict; segments are counted from 1
 abbrev pub reported_as : Rules → Book → (segment : ℕ) → Verdict → Answer
-reported_as rules b i GoesOn = report_in (cell_in (state_after b.trail) (i - 1)) (in_force_at (conditions_by rules b) (i - 1))
+reported_as rules b i GoesOn =
+    report_in (cell_in (state_after b.trail) (i - 1)) (in_force_at (conditions_by rules b) (i - 1)) (tally_of b.trail (i - 1))
 reported_as rules b i (RefusedBy number) = Refused number 0
 
 -- the answer of a call, by the verdict of its table (9 never comes, for the road is laid)

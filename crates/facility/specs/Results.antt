@@ -22,7 +22,7 @@ ran (Err r) f = record { refusal = refusal_number r; offset = 0; used = 0; facil
 -- of a segment report
 abbrev pub report_told : Result SegmentReport Refusal → ReportReply
 report_told (Ok r) =
-    record { refusal = 0; n = r.n; q = r.q; main = r.main; ramp = r.ramp; off = r.off; out = r.out; level = r.level }
+    record { refusal = 0; n = r.n; q = r.q; main = r.main; ramp = r.ramp; off = r.off; out = r.out; level = r.level; tally = r.tally }
 report_told (Err r) = no_report (refusal_number r)
 
 -- of totals

@@ -1,13 +1,16 @@
--- Document 01, "The list statement": the one claim about a whole list of calls on a road just laid. `proofs/Lists` shows it of every list.
-use Rattle.std.specs.Prelude.{ℕ, ◌+◌, true, ◌≡◌, [], ◌∷◌, List, map}
+-- Document 01, "The list statement", and document 02, Q-4, the off-ramp's total to the part: the one claim about a whole list of calls on a road
+-- just laid. `proofs/Lists` shows it of every list.
+use Rattle.std.specs.Prelude.{ℕ, ◌+◌, ◌<◌, true, ◌≡◌, [], ◌∷◌, List, map}
+use Rattle.parts.specs.Parts.{segment_of}
 use Rattle.conditions.specs.Conditions.{segments}
-use Rattle.steps.specs.Step.{stored_of}
+use Rattle.steps.specs.Step.{cell_in, stored_of}
+use Rattle.steps.specs.Tallies.{tally_in}
 use Rattle.door.specs.declared.Facility.{Facility}
 use Rattle.door.specs.Sound.{sound}
 use Rattle.numbers.specs.Number.{Bytes}
-use Rattle.facility.specs.Ledger.{Call, Take, Run, Report, Totals, Answer, Refused, Trail, state_after, arrived_in, left_in, partsteps_in, opened, answers, book_after}
+use Rattle.facility.specs.Ledger.{Call, Take, Run, Report, Totals, Answer, Refused, Trail, state_after, arrived_in, left_in, partsteps_in, tally_of, opened, answers, book_after}
 use Rattle.facility.specs.Calls.{empty, not_written, write_road_of, write_period_of}
-use Rattle.facility.specs.Claims.{Every, Chained, Right, Balanced}
+use Rattle.facility.specs.Claims.{Every, Chained, Right, Balanced, ToThePart, Apportioned}
 use Rattle.facility.specs.View.{view}
 use Rattle.numbers.specs.Row.{ReadRow}
 use Rattle.sheets.specs.Read.{read_road, sheet_reading}
@@ -26,7 +29,7 @@ trail road cs = (book_after (opened road) cs).trail
 
 -- THE STATEMENT. `road` is the road laid, `xs` are the answers that the calls gave, and `g` is the facility that they left
 pub record ListStatement (road : List ℕ) (cs : List Call) (xs : List Answer) (g : Facility) : Type 0 where
-  -- every answer is the ledger's, refusals with their numbers and offsets, reports with n, q, f, r, off(y), y and the letter
+  -- every answer is the ledger's, refusals with their numbers and offsets, reports with n, q, f, r, off(y), y, the letter and both totals
   pub answered : xs ≡ answers (opened road) cs
   -- the facility left is the one that shows the ledger's book, in every field
   pub shows : g ≡ view (book_after (opened road) cs)
@@ -43,6 +46,12 @@ pub record ListStatement (road : List ℕ) (cs : List Call) (xs : List Answer) (
   -- the off-ramp gets its share to the part, nothing is lost; and each step starts where the one before ended
   pub every_step : Every Right (trail road cs)
   pub chained : Chained (trail road cs)
+  -- each segment's totals are those over the ledger's steps: each step's own off(y), and each step's y
+  pub tallies : (i : ℕ) → i < segments road → tally_in g.tallies i ≡ tally_of (trail road cs) i
+  -- what left by its off-ramp is exactly all that left it × s / 1000, rounded down, and its remainder is what that division leaves, now and after
+  -- every step
+  pub off_ramps : (i : ℕ) → i < segments road → ToThePart (segment_of road i).share (tally_in g.tallies i) (cell_in g.state i).remainder
+  pub apportioned : Apportioned (trail road cs)
   -- the road stays as it was laid, and the facility is never the empty one
   pub same_road : g.road ≡ road
   pub never_empty : sound g ≡ true

@@ -6,6 +6,7 @@ ghost use Rattle.numbers.specs.Writing.{writing};
 ghost use Rattle.conditions.specs.Conditions.{segments, entry_under};
 ghost use Rattle.running.specs.Steps.{sheet_by};
 ghost use Rattle.steps.specs.Step.{cell_in};
+ghost use Rattle.steps.specs.Tallies.{tally_in};
 ghost use Rattle.door.specs.Sound.{sound};
 ghost use Rattle.parts.specs.Good.{GoodRoad};
 ghost use Rattle.facility.specs.Calls.{fresh_on, lay_of, with_sheet, take_of, run_of, reported, level_at, report_of, totals_of, write_road_of, write_period_of};
@@ -15,10 +16,11 @@ ghost use Rattle.facility.specs.Verdicts.{GoesOn, RefusedBy, unfinished, run_ver
 use door::Facility;
 use letters::Level;
 use refusals::{Refusal, Refused};
+use segment::Tally;
 use sheets::Layout;
 use steps::State;
 
-// A segment report: n, q, the last step's f, r, off(y) and y, and the level letter.
+// A segment report: n, q, the last step's f, r, off(y) and y, the level letter, and the segment's totals since the laying.
 #[derive(Clone, Copy, Debug, PartialEq, Eq)]
 pub struct SegmentReport {
     pub n: u32,
@@ -28,6 +30,7 @@ pub struct SegmentReport {
     pub off: u32,
     pub out: u32,
     pub level: Level,
+    pub tally: Tally,
 }
 
 // The totals: arrived, left, stored and part-steps.
@@ -69,6 +72,7 @@ pub fn fresh_on(road: [u32; 452]) -> Facility
         taken: 0,
         made: 0,
         state: State::fresh(),
+        tallies: [Tally::default(); 64],
         arrived: 0,
         left: 0,
         partsteps: 0,
@@ -185,7 +189,7 @@ fn lanes_at(f: &Facility, i: usize) -> u32
 #[tactic(auto, using(crate::proofs::Letters::letter_is))]
 fn report_at(f: &Facility, i: usize) -> SegmentReport
     requires { GoodRoad f.now.road × (i < segments f.now.road) }
-    ensures { report_told (Ok result) ≡ reported (cell_in f.now.state i) (level_at f.now i) }
+    ensures { report_told (Ok result) ≡ reported (cell_in f.now.state i) (level_at f.now i) (tally_in f.now.tallies i) }
 {
     let cell = f.state.cells[i];
     let length = parts::segment_at(&f.road, i as u32).length;
@@ -198,6 +202,7 @@ fn report_at(f: &Facility, i: usize) -> SegmentReport
         off: cell.off,
         out: cell.out,
         level: letters::level_of(cell.n, length, lanes),
+        tally: f.tallies[i],
     }
 }
 

@@ -17,7 +17,7 @@ use Rattle.segment.specs.Place.{split_of, wish_of, most_of, onward_of, queued_of
 use Rattle.steps.specs.Step.{main_wish_at, queued_at, main_flow_at, replaced, stepped, sum_to, arrived_of, left_of, stored_of}
 use Rattle.letters.specs.Level.{graded, holds_at_most, level_by, level_of}
 use Rattle.door.specs.declared.Facility.{Facility}
-use Rattle.facility.specs.Ledger.{Call, Take, Run, Report, Totals, Answer, Refused, Taken, Ran, Reported, Summed, arrived_in, left_in, partsteps_in, opened, answers}
+use Rattle.facility.specs.Ledger.{Call, Take, Run, Report, Totals, Answer, Refused, Taken, Ran, Reported, Summed, arrived_in, left_in, partsteps_in, off_in, out_in, opened, answers}
 use Rattle.facility.specs.Verdicts.{unfinished, take_verdict, run_verdict, report_verdict}
 use Rattle.facility.proofs.Played.{Played}
 use Rattle.facility.specs.Statement.{AcceptedRoad, road_of}
@@ -58,7 +58,7 @@ said =
     ∷ Refused 12 0
     ∷ Refused 5 0
     ∷ Ran
-    ∷ Reported (record { n = 4092; q = 0; main = 4092; ramp = 0; off = 0; out = 4092 }) D
+    ∷ Reported (record { n = 4092; q = 0; main = 4092; ramp = 0; off = 0; out = 4092 }) D (record { off = 0; out = 8492 })
     ∷ Refused 6 0
     ∷ Refused 11 0
     ∷ Summed 14400 8492 5908 15908
@@ -73,12 +73,12 @@ abbrev said_filled : List Answer
 said_filled =
     Taken 7
     ∷ Ran
-    ∷ Reported (record { n = 22797; q = 0; main = 0; ramp = 0; off = 0; out = 0 }) F
+    ∷ Reported (record { n = 22797; q = 0; main = 0; ramp = 0; off = 0; out = 0 }) F (record { off = 0; out = 0 })
     ∷ Refused 4 7
     ∷ Refused 4 7
     ∷ Taken 8
     ∷ Ran
-    ∷ Reported (record { n = 18397; q = 0; main = 0; ramp = 0; off = 0; out = 2200 }) F
+    ∷ Reported (record { n = 18397; q = 0; main = 0; ramp = 0; off = 0; out = 2200 }) F (record { off = 0; out = 4400 })
     ∷ []
 
 -- the letter goes by the open lanes from the moment their sheet is taken, and still when it is run out
@@ -87,14 +87,14 @@ lettered = Report 1 ∷ Take (sheet 2) ∷ Run 60 ∷ Report 1 ∷ Take (sheet 1
 
 abbrev said_lettered : List Answer
 said_lettered =
-    Reported (record { n = 0; q = 0; main = 0; ramp = 0; off = 0; out = 0 }) A
+    Reported (record { n = 0; q = 0; main = 0; ramp = 0; off = 0; out = 0 }) A (record { off = 0; out = 0 })
     ∷ Taken 8
     ∷ Ran
-    ∷ Reported (record { n = 4092; q = 0; main = 4092; ramp = 0; off = 0; out = 4092 }) D
+    ∷ Reported (record { n = 4092; q = 0; main = 4092; ramp = 0; off = 0; out = 4092 }) D (record { off = 0; out = 241736 })
     ∷ Taken 8
-    ∷ Reported (record { n = 4092; q = 0; main = 4092; ramp = 0; off = 0; out = 4092 }) F
+    ∷ Reported (record { n = 4092; q = 0; main = 4092; ramp = 0; off = 0; out = 4092 }) F (record { off = 0; out = 241736 })
     ∷ Ran
-    ∷ Reported (record { n = 2046; q = 0; main = 2046; ramp = 0; off = 0; out = 2046 }) D
+    ∷ Reported (record { n = 2046; q = 0; main = 2046; ramp = 0; off = 0; out = 2046 }) D (record { off = 0; out = 366192 })
     ∷ []
 
 -- the road with an off-ramp of share 333, and a sheet by which 3 arrive in a step
@@ -105,7 +105,7 @@ abbrev light : List ℕ
 light = 0x01 ∷ 0x03 ∷ 0x90 ∷ 0x4E ∷ 0x00 ∷ 0x00 ∷ 0x02 ∷ []
 
 -- of 3 that leave the off-ramp's share is 0.999: nobody in the first step in which they leave, then one in each, also in the first step of the next
--- period, for the remainder is carried on, and a refused run does not change it
+-- period, for the remainder is carried on, and a refused run does not change it. The totals go on too: 177 × 333 / 1000 is 58, and 180 × 333 / 1000 is 59
 abbrev carried : List Call
 carried = Take light ∷ Run 2 ∷ Report 1 ∷ Run 58 ∷ Report 1 ∷ Run 1 ∷ Take light ∷ Run 1 ∷ Report 1 ∷ []
 
@@ -113,13 +113,13 @@ abbrev said_carried : List Answer
 said_carried =
     Taken 7
     ∷ Ran
-    ∷ Reported (record { n = 3; q = 0; main = 3; ramp = 0; off = 0; out = 3 }) A
+    ∷ Reported (record { n = 3; q = 0; main = 3; ramp = 0; off = 0; out = 3 }) A (record { off = 0; out = 3 })
     ∷ Ran
-    ∷ Reported (record { n = 3; q = 0; main = 3; ramp = 0; off = 1; out = 3 }) A
+    ∷ Reported (record { n = 3; q = 0; main = 3; ramp = 0; off = 1; out = 3 }) A (record { off = 58; out = 177 })
     ∷ Refused 11 0
     ∷ Taken 7
     ∷ Ran
-    ∷ Reported (record { n = 3; q = 0; main = 3; ramp = 0; off = 1; out = 3 }) A
+    ∷ Reported (record { n = 3; q = 0; main = 3; ramp = 0; off = 1; out = 3 }) A (record { off = 59; out = 180 })
     ∷ []
 
 computed :
@@ -127,7 +127,7 @@ computed :
     × (answers (opened (road_of road)) filled ≡ said_filled)
     × (answers (opened (road_of road)) lettered ≡ said_lettered)
     × (answers (opened (road_of off_road)) carried ≡ said_carried)
-unfolding read_number groups last more placed in_range read_field road_range period_range range_of count_of road_globals segment_of period_globals entry_of onto and_then fields read_row road_from read_road read_period sheet_reading largest rounded_up parts_at wish_to_leave off remainder_after through most_leaving ramp_wish entrance supply ramp_flow main_flow leaving values_to open_capacity lowered_by in_force demand_under outlet_under entry_under conditions_of split_of wish_of most_of onward_of queued_of ramp_wish_of entrance_of supply_of inflow_of leaving_of moved_of main_wish_at queued_at main_flow_at replaced stepped sum_to arrived_of left_of stored_of graded holds_at_most level_by level_of unfinished take_verdict run_verdict report_verdict arrived_in left_in partsteps_in
+unfolding read_number groups last more placed in_range read_field road_range period_range range_of count_of road_globals segment_of period_globals entry_of onto and_then fields read_row road_from read_road read_period sheet_reading largest rounded_up parts_at wish_to_leave off remainder_after through most_leaving ramp_wish entrance supply ramp_flow main_flow leaving values_to open_capacity lowered_by in_force demand_under outlet_under entry_under conditions_of split_of wish_of most_of onward_of queued_of ramp_wish_of entrance_of supply_of inflow_of leaving_of moved_of main_wish_at queued_at main_flow_at replaced stepped sum_to arrived_of left_of stored_of graded holds_at_most level_by level_of unfinished take_verdict run_verdict report_verdict arrived_in left_in partsteps_in off_in out_in
 computed = (refl, refl, refl, refl)
 
 -- so these are the answers of the facility's calls

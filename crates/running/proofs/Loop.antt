@@ -1,17 +1,21 @@
 -- The loop of a run: after i steps the facility is that of i steps, and in its bounds.
 use Prim.Native.Nat.{ℕ, ◌+◌, ◌-◌, ◌*◌, ◌≤◌, ◌<◌}
+use mathlib.Core.List.{List}
 use mathlib.Core.Path.{◌≡◌, refl, sym, ap, ◌∙◌, subst}
 use native.Mathlib.Omega.{arith}
 use native.Mathlib.Numerals.{add-one}
 use Rattle.parts.specs.Good.{GoodRoad, GoodPeriod}
 use Rattle.parts.proofs.Good.{good_road}
+use Rattle.segment.specs.declared.tally.Tally.{Tally}
 use Rattle.steps.specs.declared.State.{State}
 use Rattle.conditions.specs.Conditions.{Conditions, Under, conditions_of}
 use Rattle.steps.specs.Step.{stepped, arrived_of, left_of}
 use Rattle.conditions.specs.Good.{GoodConditions}
 use Rattle.conditions.proofs.Good.{under, good_conditions}
-use Rattle.steps.specs.Bounded.{Bounded}
+use Rattle.steps.specs.Tallies.{tallied}
+use Rattle.steps.specs.Bounded.{Bounded, BoundedTallies}
 use Rattle.steps.proofs.Bounds.{bounded_longer, bounded_after, arrived_most, left_most}
+use Rattle.steps.proofs.Tallies.{tallies_longer, tallied_bounded}
 use Rattle.door.specs.declared.Facility.{Facility}
 use Rattle.door.specs.Sound.{steps_by}
 use Rattle.running.specs.Ready.{Ready}
@@ -27,6 +31,7 @@ pub record Turn (f : Facility) (k i : ℕ) (now : Facility) : Type 0 where
   pub taken : now.taken ≡ f.taken
   pub made : now.made ≡ f.made + i
   pub bounds : Bounded (conditions_on f).segments (steps_by now.taken now.made) now.state
+  pub tallies : BoundedTallies (conditions_on f).segments (steps_by now.taken now.made) now.tallies
   pub sums : BoundedSums (steps_by now.taken now.made) now.arrived now.left now.partsteps
 
 module _ (f : Facility) (k : ℕ) (ready : Ready f k) where
@@ -59,6 +64,7 @@ module _ (f : Facility) (k : ℕ) (ready : Ready f k) where
     taken = refl;
     made = omega arith;
     bounds = facts.bounds;
+    tallies = facts.tallies;
     sums = facts.sums;
   }
 
@@ -74,6 +80,9 @@ module _ (f : Facility) (k : ℕ) (ready : Ready f k) where
     -- what the step asks
     pub turn_bounds : Bounded (conditions_on f).segments 5760 now.state
     turn_bounds = bounded_longer _ _ 5760 now.state (omega (arith, few)) t.bounds
+
+    pub turn_tallies : BoundedTallies (conditions_on f).segments 5760 now.tallies
+    turn_tallies = tallies_longer _ _ 5760 now.tallies (omega (arith, few)) t.tallies
 
     abbrev comes : ℕ
     comes = arrived_of (conditions_on f)
@@ -99,26 +108,29 @@ module _ (f : Facility) (k : ℕ) (ready : Ready f k) where
         )
 
     -- the step made
-    pub turned : (next : State) (arrives leaves more : ℕ) → next ≡ stepped (conditions_on f) now.state → leaves ≡ goes → arrives ≡ comes
+    pub turned : (next : State) (counted : List Tally) (arrives leaves more : ℕ) → next ≡ stepped (conditions_on f) now.state
+        → counted ≡ tallied (conditions_on f) now.state now.tallies → leaves ≡ goes → arrives ≡ comes
         → more ≡ now.arrived + arrives - (now.left + leaves)
         → Turn f k (i + 1) (record now {
           made = now.made + 1;
           state = next;
+          tallies = counted;
           arrived = now.arrived + arrives;
           left = now.left + leaves;
           partsteps = now.partsteps + more;
         })
     unfolding step_of steps_of
-    turned next arrives leaves more en el ea em =
+    turned next counted arrives leaves more en et el ea em =
         let s = t.sums in
         let n = few in
         record {
-          is = rw (em, ea, el, en, ← t.same) (ap step_of t.is ∙ ap (λ (j : ℕ). steps_of j f) (sym (add-one i)));
+          is = rw (em, ea, el, et, en, ← t.same) (ap step_of t.is ∙ ap (λ (j : ℕ). steps_of j f) (sym (add-one i)));
           most = omega arith;
           same = t.same;
           taken = t.taken;
           made = omega (arith, t.made);
           bounds = rw (one_more, en) (bounded_after (conditions_on f) now.state force_good t.bounds);
+          tallies = rw (one_more, et) (tallied_bounded (conditions_on f) now.state now.tallies force_good t.bounds t.tallies);
           sums = rw (one_more, em, el, ea) (record {
             arrived_most = omega (arith, s.arrived_most, comes_most);
             left_most = omega (arith, s.left_most, goes_most);

@@ -1,7 +1,8 @@
--- Document 01, "Calls on a facility", run k steps: what a facility is after a step, and after k of them.
+-- Document 01, "Calls on a facility", run k steps, and document 02, Q-4, the totals: what a facility is after a step, and after k of them.
 use Rattle.std.specs.Prelude.{ℕ, zero, suc, ◌+◌, ◌-◌, List}
 use Rattle.conditions.specs.Conditions.{Conditions, SheetInForce, None, Under, conditions_of}
 use Rattle.steps.specs.Step.{stepped, arrived_of, left_of}
+use Rattle.steps.specs.Tallies.{tallied}
 use Rattle.door.specs.declared.Facility.{Facility}
 
 -- the sheet in force, by the number of sheets taken
@@ -13,7 +14,8 @@ sheet_by (suc n) period = Under period
 abbrev pub conditions_on : Facility → Conditions
 conditions_on f = conditions_of f.road (sheet_by f.taken f.period)
 
--- one step under the sheet in force: its arrived and its left are added to the two sums, then the first less the second to part-steps
+-- one step under the sheet in force: each segment's off(y) and y are added to its totals, arrived and left to the two sums, then the first
+-- of these less the second to part-steps
 unfoldable pub step_of : Facility → Facility
 step_of f =
     let c = conditions_on f in
@@ -26,6 +28,7 @@ step_of f =
       taken = f.taken;
       made = f.made + 1;
       state = next;
+      tallies = tallied c f.state f.tallies;
       arrived = arrived;
       left = left;
       partsteps = f.partsteps + (arrived - left);

@@ -15,7 +15,7 @@ pub fn make_steps(f: &mut Facility, k: u32)
     let conditions = conditions::work_out(&f.road, &f.period);
     let arrives = u64::from(steps::arrived(&conditions));
     for _ in 0..k {
-        let leaves = steps::step(&conditions, &mut f.state);
+        let leaves = steps::step(&conditions, &mut f.state, &mut f.tallies);
         f.made += 1;
         f.arrived += arrives;
         f.left += u64::from(leaves);

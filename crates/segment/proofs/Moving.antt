@@ -13,7 +13,7 @@ use Rattle.segment.specs.Place.{split_of, most_of, leaving_of, moved_of}
 use Rattle.segment.specs.Entered.{sent_of}
 use Rattle.conditions.specs.Good.{GoodPlace}
 use Rattle.segment.specs.Bounded.{BoundedCell}
-use Rattle.segment.proofs.Laws.{good_split, most_capacity, off_most_at}
+use Rattle.segment.proofs.Laws.{good_split, let_out, most_capacity, off_most_at}
 
 -- what is sent on: what leaves where Y0 do
 module _ (here : InForce) (cell : Cell) (sent : Sent) (e : sent ≡ sent_of here cell) where
@@ -45,3 +45,9 @@ pub moved_off : (here : InForce) (cell : Cell) (flow : Flow) (ahead : ℕ) (afte
     → after ≡ moved_of here cell flow (leaving_of here cell ahead) → after.off ≤ 10000
 unfolding moved_of
 moved_off here cell flow ahead after good held e = rw e (omega (arith, off_most_at here cell ahead (good_split here cell good held), good.offramp))
+
+-- and in all no more than the largest capacity
+pub moved_out : (here : InForce) (cell : Cell) (flow : Flow) (ahead : ℕ) (after : Cell) → GoodPlace here
+    → after ≡ moved_of here cell flow (leaving_of here cell ahead) → after.out ≤ 20000
+unfolding moved_of
+moved_out here cell flow ahead after good e = rw e (omega (arith, let_out here cell ahead, good.capacity))

@@ -2,3 +2,4 @@ pub mod Place
 pub mod Bounded
 pub mod Entered
 pub mod Movable
+pub mod Tally

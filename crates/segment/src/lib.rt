@@ -13,6 +13,10 @@ ghost use Rattle.segment.specs.Movable.{Movable};
 use conditions::Place;
 use rules::{Flow, Outflow, Split, merged, ramp_wish, supply_of, wish_to_leave};
 
+mod tally;
+
+pub use tally::Tally;
+
 // A segment's state: n parts in it and q in its on-ramp's queue; of the last step the mainline flow f and the ramp flow r that
 // entered, off(y) that left by the off-ramp, and y that left in all; and the remainder, thousandths of a part that the off-ramp's
 // share has left over.

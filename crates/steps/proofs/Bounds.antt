@@ -1,8 +1,7 @@
 -- Bounds by which nothing overflows for 96 periods of 60 steps.
-use Prim.Native.Nat.{ℕ, zero, suc, ◌+◌, ◌≤◌, ◌<◌}
-use mathlib.Core.Path.{◌≡◌, refl}
+use Prim.Native.Nat.{ℕ, suc, ◌+◌, ◌≤◌, ◌<◌}
+use mathlib.Core.Path.{◌≡◌}
 use native.Mathlib.Omega.{arith}
-use lib.ListN.{get_or, replicate}
 use Rattle.segment.specs.declared.Cell.{Cell}
 use Rattle.steps.specs.declared.State.{State}
 use Rattle.conditions.specs.Conditions.{Conditions, in_force_at}
@@ -13,6 +12,7 @@ use Rattle.segment.specs.Bounded.{BoundedCell}
 use Rattle.steps.specs.Bounded.{Bounded}
 use Rattle.segment.proofs.Laws.{off_most_at, remains}
 use Rattle.steps.proofs.Laws.{split_at, exit_exact, held_at}
+use Rattle.conditions.proofs.Values.{replicated}
 use Rattle.steps.proofs.Sums.{replaced_either, sum_most}
 
 pub cell_longer : (s t : ℕ) (cell : Cell) → s ≤ t → BoundedCell s cell → BoundedCell t cell
@@ -27,13 +27,8 @@ bounded_longer ns s t state h b = record {
 cell_none : (t : ℕ) → BoundedCell t no_cell
 cell_none t = record { parts = omega arith; queue = omega arith; remainder = omega arith }
 
-none_at : (n i : ℕ) → get_or (replicate n no_cell) i no_cell ≡ no_cell
-none_at zero i = refl
-none_at (suc n) zero = refl
-none_at (suc n) (suc i) = none_at n i
-
 pub cell_fresh : (i : ℕ) → cell_in fresh_state i ≡ no_cell
-cell_fresh i = none_at 64 i
+cell_fresh i = replicated no_cell 64 i
 
 pub bounded_fresh : (ns : ℕ) → Bounded ns 0 fresh_state
 bounded_fresh ns = record { cells = λ i h. rw (cell_fresh i) (cell_none 0); origin = omega arith }

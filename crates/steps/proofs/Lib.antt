@@ -4,3 +4,4 @@ pub mod Balance
 pub mod Bounds
 pub mod Claims
 pub mod Passing
+pub mod Tallies

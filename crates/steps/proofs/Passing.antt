@@ -104,52 +104,65 @@ module _ (c : Conditions) (start : State) (last : ℕ) (now : State) (came : Ent
         sum_most (λ j. (next_cell c start j).off) 10000 i (λ j h. off_most_after c start good bounded j (omega arith)),
       )
 
+  -- what enters the next segment, and the cell moved on: before the last segment
   module _ (sent : Sent) (sending : sent ≡ sent_of (in_force_at c i) (cell_in start i)) where
-    next_cells : (after : Cell) → after ≡ next_cell c start i → set now.cells i after ≡ replaced (next_cell c start) (i + 1) start.cells
-    unfolding replaced
-    next_cells after e = rw (add-one, at.cells_are, e)
-
-    next_left : (after : Cell) → after ≡ next_cell c start i → left + after.off ≡ sum_to (λ j. (next_cell c start j).off) (i + 1)
-    next_left after e = sum_more (λ j. (next_cell c start j).off) i left after.off at.left_is (rw e)
-
-    -- a turn of a segment before the last
-    pub turned : (ahead : Entered) (after : Cell) →
+    pub moved_on : (ahead : Entered) (after : Cell) →
         i < last →
         ahead ≡ entered (inflow_of (in_force_at c (i + 1)) (cell_in start (i + 1)) sent.most.onward sent.queued)
         ((cell_in start (i + 1)).q + (in_force_at c (i + 1)).demand) →
         after ≡ moved_of (in_force_at c i) (cell_in start i) (flow_of came) (leaving_of (in_force_at c i) (cell_in start i) ahead.main) →
-        Passing c start last (record now { cells = set now.cells i after }) ahead (left + after.off) (i + 1)
+        (ahead ≡ came_at c start (i + 1)) × (after ≡ next_cell c start i)
     unfolding main_wish_at queued_at sent_of onward_of
-    turned ahead after h a e =
+    moved_on ahead after h a e =
         let f : ahead ≡ came_at c start (i + 1) = rw (a, sending, add-one) in
         let m : ahead.main ≡ main_flow_at c start (suc i) = rw (f, add-one, main_flow_at_lem c start (suc i) (omega (arith, at.last_one))) in
-        let x : after ≡ next_cell c start i = rw (e, at.came_is, m) in
-        record {
-          up_to = omega arith;
-          last_one = at.last_one;
-          origin_is = at.origin_is;
-          cells_are = next_cells after x;
-          came_is = f;
-          left_is = next_left after x;
-        }
+        (f, rw (e, at.came_is, m))
+
+    -- and at the last
+    pub moved_last : (exit : ℕ) (after : Cell) →
+        i ≡ last →
+        exit ≡ min sent.most.onward c.outlet →
+        after ≡ moved_of (in_force_at c i) (cell_in start i) (flow_of came) (leaving_of (in_force_at c i) (cell_in start i) exit) →
+        (exit ≡ main_flow_at c start c.segments) × (after ≡ next_cell c start i)
+    unfolding main_wish_at sent_of onward_of
+    moved_last exit after h x e =
+        let n : suc i ≡ c.segments = omega (arith, at.last_one) in
+        let w : exit ≡ main_flow_at c start c.segments = rw (x, sending, exit_exact c start, ← n) in
+        (w, rw (e, at.came_is, w, n))
+
+  module _ (after : Cell) (moved : after ≡ next_cell c start i) where
+    next_cells : set now.cells i after ≡ replaced (next_cell c start) (i + 1) start.cells
+    unfolding replaced
+    next_cells = rw (add-one, at.cells_are, moved)
+
+    next_left : left + after.off ≡ sum_to (λ j. (next_cell c start j).off) (i + 1)
+    next_left = sum_more (λ j. (next_cell c start j).off) i left after.off at.left_is (rw moved)
+
+    -- a turn of a segment before the last
+    pub turned : (ahead : Entered) → i < last → ahead ≡ came_at c start (i + 1)
+        → Passing c start last (record now { cells = set now.cells i after }) ahead (left + after.off) (i + 1)
+    turned ahead h f = record {
+      up_to = omega arith;
+      last_one = at.last_one;
+      origin_is = at.origin_is;
+      cells_are = next_cells;
+      came_is = f;
+      left_is = next_left;
+    }
 
     -- and that of the last
-    pub done : {t : ℕ} (exit : ℕ) (after : Cell) →
+    pub done : {t : ℕ} (exit : ℕ) →
         GoodConditions c →
         Bounded c.segments t start →
         c.segments ≤ length start.cells →
         i ≡ last →
-        exit ≡ min sent.most.onward c.outlet →
-        after ≡ moved_of (in_force_at c i) (cell_in start i) (flow_of came) (leaving_of (in_force_at c i) (cell_in start i) exit) →
+        exit ≡ main_flow_at c start c.segments →
         (record { cells = set now.cells i after; origin = now.origin; exit = exit } ≡ stepped c start)
         × (exit + left + after.off ≡ left_of c.segments (stepped c start))
-    unfolding stepped main_wish_at sent_of onward_of
-    done exit after good bounded long h x e =
-        let n : suc i ≡ c.segments = omega (arith, at.last_one) in
-        let p : i + 1 ≡ c.segments = omega (arith, n) in
-        let w : exit ≡ main_flow_at c start c.segments = rw (x, sending, exit_exact c start, ← n) in
-        let y : after ≡ next_cell c start i = rw (e, at.came_is, w, n) in
-        let l = next_left after y ∙ ap (sum_to (λ j. (next_cell c start j).off)) p in (
-          rw (next_cells after y, at.origin_is, w, p),
+    unfolding stepped
+    done exit good bounded long h w =
+        let p : i + 1 ≡ c.segments = omega (arith, at.last_one) in
+        let l = next_left ∙ ap (sum_to (λ j. (next_cell c start j).off)) p in (
+          rw (next_cells, at.origin_is, w, p),
           omega (arith, left_is c start good bounded long, l, w),
         )

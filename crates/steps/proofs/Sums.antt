@@ -11,8 +11,8 @@ use lib.ListN.{length, get_or, length-set, get_or-eq_default}
 use lib.Dec.{ltb}
 use borrow.Author.Tests.{ltb-true, ltb-false}
 use lib.Seq.{get_or-set_same, get_or-set_other}
-use Rattle.conditions.specs.Values.{values_to}
-use Rattle.conditions.proofs.Values.{values_are}
+use Rattle.std.proofs.lemmas.Bool.{cases_lt}
+use Rattle.std.proofs.lemmas.List.{ext_get_or}
 use Rattle.steps.specs.Step.{replaced, sum_to}
 
 pub length_replaced : {A : Type 0} (g : ℕ → A) (k : ℕ) (xs : List A) → length (replaced g k xs) ≡ length xs
@@ -30,16 +30,21 @@ replaced_at g (suc k) i xs d h l =
     (λ below. get_or-set_other (replaced g k xs) k i (g k) d (λ e. omega arith) ∙ replaced_at g k i xs d below l)
     (eq-or-lt_of_le {n = i} {m = k} (omega arith))
 
--- where all are replaced, the list is the function's values
-pub replaced_all : {A : Type 0} (g : ℕ → A) (k : ℕ) (xs : List A) (d : A) → length xs ≡ k → replaced g k xs ≡ values_to g k
-replaced_all g k xs d l =
-    sym (values_are g k (replaced g k xs) d (length_replaced g k xs ∙ l) (λ i h. sym (replaced_at g k i xs d h (omega arith))))
-
 -- and those from the number on stay
 pub replaced_beyond : {A : Type 0} (g : ℕ → A) (k i : ℕ) (xs : List A) (d : A) → k ≤ i → get_or (replaced g k xs) i d ≡ get_or xs i d
 unfolding replaced
 replaced_beyond g zero i xs d h = refl
 replaced_beyond g (suc k) i xs d h = get_or-set_other (replaced g k xs) k i (g k) d (λ e. omega arith) ∙ replaced_beyond g k i xs d (omega arith)
+
+-- a list that has the function's values first, and then what stood there, is the list replaced
+pub replaced_is : {A : Type 0} (g : ℕ → A) (k : ℕ) (xs ys : List A) (d : A) → k ≤ length xs → length ys ≡ length xs
+    → ((i : ℕ) → i < k → get_or ys i d ≡ g i) → ((i : ℕ) → k ≤ i → get_or ys i d ≡ get_or xs i d) → ys ≡ replaced g k xs
+replaced_is g k xs ys d fits long first behind =
+    ext_get_or d ys (replaced g k xs) (long ∙ sym (length_replaced g k xs)) (λ i h.
+    ⊎_elim
+    (λ below. first i below ∙ sym (replaced_at g k i xs d below (omega arith)))
+    (λ beyond. behind i beyond ∙ sym (replaced_beyond g k i xs d beyond))
+    (cases_lt i k))
 
 -- what holds of the function's value and of the default holds of the element there, however long the list is
 either_by : {A : Type 0} (P : A → Type 0) (g : ℕ → A) (k i : ℕ) (xs : List A) (d : A) → i < k → P (g i) → P d

@@ -1,3 +1,4 @@
 pub mod Step
 pub mod Claims
 pub mod Bounded
+pub mod Tallies

@@ -4,10 +4,11 @@
 ghost use Rattle.std.specs.Prelude.{◌≡◌, ◌≤◌, ◌<◌};
 ghost use Rattle.conditions.specs.View.{conditions_in};
 ghost use Rattle.steps.specs.Step.{fresh_state, stepped, arrived_of, left_of, stored_of};
-ghost use Rattle.steps.specs.Bounded.{Bounded};
+ghost use Rattle.steps.specs.Tallies.{tallied};
+ghost use Rattle.steps.specs.Bounded.{Bounded, BoundedTallies};
 
 use conditions::Conditions;
-use segment::{Cell, flow_at, moved_at, sent_at};
+use segment::{Cell, Tally, flow_at, moved_at, sent_at};
 
 // The road's state: the segments' cells, the mainline queue o before node 1, and of the last step the flow f at the exit.
 #[derive(Clone, Copy)]
@@ -17,11 +18,14 @@ pub struct State {
     pub exit: u32,
 }
 
-// One step in place: one pass over the segments, which carries what entered the segment at hand and puts each cell after it and the
-// next have been read. The last segment, before the exit, comes after the loop. How many parts left in the step is returned.
-pub fn step(conditions: &Conditions, state: &mut State) -> u32
-    requires { Bounded (conditions_in conditions.now).segments 5760 state.old }
+// One step in place: one pass over the segments, which carries what entered the segment at hand, puts each cell after it and the
+// next have been read, and adds what left the segment to its totals. The last segment, before the exit, comes after the loop. How many
+// parts left in the step is returned.
+pub fn step(conditions: &Conditions, state: &mut State, tallies: &mut [Tally; 64]) -> u32
+    requires state_bounded { Bounded (conditions_in conditions.now).segments 5760 state.old }
+    requires tallies_bounded { BoundedTallies (conditions_in conditions.now).segments 5760 tallies.old }
     ensures { (state.new ≡ stepped (conditions_in conditions.now) state.old)
+        × (tallies.new ≡ tallied (conditions_in conditions.now) state.old tallies.old)
         × (result ≡ left_of (conditions_in conditions.now).segments (stepped (conditions_in conditions.now) state.old)) }
 {
     let last = conditions.segments as usize - 1;
@@ -41,6 +45,7 @@ pub fn step(conditions: &Conditions, state: &mut State) -> u32
         let ahead = flow_at(next, state.cells[i + 1], sent.most.onward, sent.queued);
         let after = moved_at(place, state.cells[i], came, sent, ahead.main);
         left += after.off;
+        tallies[i] = tallies[i].with_step(after);
         state.cells[i] = after;
         came = ahead;
     }
@@ -48,6 +53,7 @@ pub fn step(conditions: &Conditions, state: &mut State) -> u32
     let sent = sent_at(place, state.cells[last]);
     let exit = sent.most.onward.min(conditions.outlet);
     let after = moved_at(place, state.cells[last], came, sent, exit);
+    tallies[last] = tallies[last].with_step(after);
     state.cells[last] = after;
     state.exit = exit;
     exit + left + after.off

@@ -133,7 +133,7 @@ laid_by_lem bytes (ReadRow row used) e laid is z =
     record {
       book = opened (padded row);
       kept = kept_opened (padded row) (read_road_allowed bytes row used e);
-      view = ap (λ (q : Reply). q.facility) is ∙ view_opened (padded row);
+      view = ap (λ (q : Reply). q.facility) is ∙ view_opened (padded row) (read_road_allowed bytes row used e);
       idle = refl;
       most = 97;
       count = refl;

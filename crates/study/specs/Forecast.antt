@@ -32,7 +32,7 @@ no_line = record { n = 0; q = 0; letter = 0 }
 
 -- a line of the listing: n, q and the letter, as a segment report has them
 abbrev pub line_of : Answer → Line
-line_of (Reported figures level) = record { n = figures.n; q = figures.q; letter = letter_byte level }
+line_of (Reported figures level tally) = record { n = figures.n; q = figures.q; letter = letter_byte level }
 line_of (Refused number offset) = no_line
 line_of (Taken used) = no_line
 line_of Ran = no_line
@@ -85,7 +85,7 @@ abbrev pub after_sheet : Answer → ℕ → (ℕ → Outcome) → Outcome
 after_sheet (Taken used) at on = on (at + used)
 after_sheet (Refused number offset) at on = RefusedStudy number (at + offset)
 after_sheet Ran at on = on at
-after_sheet (Reported figures level) at on = on at
+after_sheet (Reported figures level tally) at on = on at
 after_sheet (Summed arrived left stored partsteps) at on = on at
 
 -- "60 steps to a 15-minute period"

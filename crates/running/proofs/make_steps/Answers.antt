@@ -1,7 +1,7 @@
 -- The conditions once, then the steps in turn.
 use mathlib.Core.Path.{◌∙◌}
 use native.Mathlib.Omega.{arith}
-use Rattle.running.proofs.Loop.{road_good, sheet_good, filled, turn_start, turn_bounds, turn_fits, turned, turn_end}
+use Rattle.running.proofs.Loop.{road_good, sheet_good, filled, turn_start, turn_bounds, turn_tallies, turn_fits, turned, turn_end}
 use Rattle.running.proofs.make_steps.Goals as goal
 
 pub work_out-conditions-requires : goal.work_out-conditions-requires
@@ -14,7 +14,11 @@ pub step-leaves-requires : goal.step-leaves-requires
 step-leaves-requires c =
     let p = c.requires in
     let e = filled _ _ p _ c.work_out-conditions.ensures in
-    rw e (turn_bounds _ _ p _ _ c.loop.invariant c.loop-test.true)
+    let turn = c.loop.invariant in
+    record {
+      state_bounded = rw e (turn_bounds _ _ p _ _ turn c.loop-test.true);
+      tallies_bounded = rw e (turn_tallies _ _ p _ _ turn c.loop-test.true);
+    }
 
 pub overflow_add-f : goal.overflow_add-f
 overflow_add-f c = omega (arith, (turn_fits _ _ c.requires _ _ c.loop.invariant c.loop-test.true).0)
@@ -30,7 +34,7 @@ pub overflow_add-f-in-loop-2 : goal.overflow_add-f-in-loop-2
 overflow_add-f-in-loop-2 c =
     let p = c.requires in
     let e = filled _ _ p _ c.work_out-conditions.ensures in
-    let leaves = c.from.ensures ∙ rw e at c.step-leaves.ensures.1 in
+    let leaves = c.from.ensures ∙ rw e at c.step-leaves.ensures.2 in
     omega (arith, (turn_fits _ _ p _ _ c.loop.invariant c.loop-test.true).2, leaves)
 
 pub overflow_add-f-in-loop-3 : goal.overflow_add-f-in-loop-3
@@ -38,15 +42,15 @@ overflow_add-f-in-loop-3 c =
     let p = c.requires in
     let e = filled _ _ p _ c.work_out-conditions.ensures in
     let arrives = c.from-arrives.ensures ∙ rw e at c.arrived.ensures in
-    let leaves = c.from.ensures ∙ rw e at c.step-leaves.ensures.1 in
+    let leaves = c.from.ensures ∙ rw e at c.step-leaves.ensures.2 in
     omega (arith, (turn_fits _ _ p _ _ c.loop.invariant c.loop-test.true).3, arrives, leaves, c.saturating_sub.ensures)
 
 pub loop-preserved : goal.loop-preserved
 loop-preserved c =
     let p = c.requires in
     let e = filled _ _ p _ c.work_out-conditions.ensures in
-    turned _ _ p _ _ c.loop.invariant c.loop-test.true _ _ _ _
-    (rw e at c.step-leaves.ensures.0) (c.from.ensures ∙ rw e at c.step-leaves.ensures.1)
+    turned _ _ p _ _ c.loop.invariant c.loop-test.true _ _ _ _ _
+    (rw e at c.step-leaves.ensures.0) (rw e at c.step-leaves.ensures.1) (c.from.ensures ∙ rw e at c.step-leaves.ensures.2)
     (c.from-arrives.ensures ∙ rw e at c.arrived.ensures) c.saturating_sub.ensures
 
 pub returns : goal.returns

@@ -1,0 +1,183 @@
+//! The comparison of lists of calls: random lists on random roads, each call answered by the program `calls` and by the model.
+
+use super::{print_refused, Progress};
+use crate::calls::{told, Answer, Call, Player};
+use crate::model::facility::{Facility, MOST_PERIODS};
+use crate::model::sheets::Refusal;
+use crate::random::calls::List;
+use crate::random::Random;
+use std::collections::BTreeMap;
+use std::io::Write;
+use std::path::Path;
+use std::process::{Command, Stdio};
+use std::thread;
+
+const PROGRAM: &str = concat!(env!("CARGO_MANIFEST_DIR"), "/../target/bin/calls");
+
+/// So many calls or a few more are played by one process, in whole lists.
+const CALLS_OF_A_PROCESS: u64 = 4_000;
+
+/// The calls of one list, as lines, with the model's answers.
+type Played = Vec<(String, String)>;
+
+/// How many calls came to what.
+#[derive(Default)]
+struct Tally {
+    lists: u64,
+    /// By name, the accepted and the refused ones.
+    calls: BTreeMap<&'static str, (u64, u64)>,
+    refused: BTreeMap<u64, u64>,
+    days: u64,
+    off: u64,
+    undivided: u64,
+}
+
+impl Tally {
+    /// Counts a call's answer; the facility is as the call left it.
+    fn add(&mut self, call: &Call, answer: &Result<Answer, Refusal>, facility: Option<&Facility>) {
+        let (accepted, refused) = self.calls.entry(call.name()).or_default();
+        if let Err(Refusal { number, .. }) = answer {
+            *refused += 1;
+            *self.refused.entry(*number).or_default() += 1;
+            return;
+        }
+        *accepted += 1;
+        let Some(facility) = facility else { return };
+        match (call, answer) {
+            (Call::Take(_), _) => self.days += u64::from(facility.periods() == MOST_PERIODS),
+            (Call::Report(segment), Ok(Answer::Report(report))) => {
+                let share = facility.road().segments[*segment as usize - 1].share;
+                let off = report.total_off > 0;
+                self.off += u64::from(off);
+                self.undivided += u64::from(off && report.total_y * share % 1000 > 0);
+            }
+            _ => {}
+        }
+    }
+
+    fn print(&self) {
+        println!("{} lists, in {} of them {MOST_PERIODS} periods", self.lists, self.days);
+        println!("              accepted  refused");
+        for (name, (accepted, refused)) in &self.calls {
+            println!("{name:<12}   {accepted:>7}  {refused:>7}");
+        }
+        println!("of the accepted reports {} have a total-off above 0;", self.off);
+        println!("  of these {} a total-y whose share is no whole number of parts", self.undivided);
+        print_refused(&self.refused);
+    }
+}
+
+/// Whether the program is there; says so where it is missing.
+pub fn program_is_made() -> bool {
+    let made = Path::new(PROGRAM).exists();
+    if !made {
+        println!("the program target/bin/calls is missing");
+        println!("make it first: run `./build calls` in the repository's root");
+    }
+    made
+}
+
+/// Compares `count` answers; true where all were equal.
+pub fn run(seed: u64, count: u64) -> bool {
+    if !program_is_made() {
+        return false;
+    }
+    println!("comparing {count} answers to random lists of calls, seed {seed}");
+    match compared(seed, count) {
+        Ok(tally) => {
+            tally.print();
+            println!("all {count} answers equal, line by line");
+            true
+        }
+        Err(difference) => {
+            println!("{difference}");
+            false
+        }
+    }
+}
+
+fn compared(seed: u64, count: u64) -> Result<Tally, String> {
+    let mut tally = Tally::default();
+    let mut seeds = Random::new(seed);
+    let mut progress = Progress::new();
+    let mut answered = 0;
+    while answered < count {
+        let lists = played(&mut seeds, count - answered, &mut tally);
+        same(&lists)?;
+        answered += calls_of(&lists);
+        progress.tell(answered, "answers");
+    }
+    Ok(tally)
+}
+
+fn calls_of(lists: &[Played]) -> u64 {
+    lists.iter().map(|list| list.len() as u64).sum()
+}
+
+/// The lists of one process, up to so many calls, played by the model. The facility goes on from list to list, as it does in the
+/// process; so all but the first list begin with a laying.
+fn played(seeds: &mut Random, most: u64, tally: &mut Tally) -> Vec<Played> {
+    let mut player = Player::new();
+    let mut lists: Vec<Played> = Vec::new();
+    let mut calls = 0;
+    while calls < most.min(CALLS_OF_A_PROCESS) {
+        let mut list = List::new(seeds.within(0, u64::MAX - 1), lists.is_empty());
+        let mut lines = Played::new();
+        while let Some(call) = list.next(player.facility()).filter(|_| calls < most) {
+            let answer = player.play(&call);
+            tally.add(&call, &answer, player.facility());
+            lines.push((call.to_string(), told(&answer)));
+            calls += 1;
+        }
+        tally.lists += 1;
+        lists.push(lines);
+    }
+    lists
+}
+
+/// Has the program play the lists too.
+fn same(lists: &[Played]) -> Result<(), String> {
+    let played = lists.iter().flatten();
+    let (calls, expected): (Vec<String>, Vec<String>) =
+        played.map(|(call, answer)| (format!("{call}\n"), format!("{call} -> {answer}\n"))).unzip();
+    let printed = printed(&calls.concat()).map_err(|error| format!("the program calls cannot be run: {error}"))?;
+    if printed == expected.concat() {
+        return Ok(());
+    }
+    Err(difference(lists, &printed))
+}
+
+/// The first line that differs, with its list's calls up to it.
+fn difference(lists: &[Played], printed: &str) -> String {
+    let mut printed = printed.split('\n');
+    for list in lists {
+        for (at, (call, answer)) in list.iter().enumerate() {
+            let (expected, given) = (format!("{call} -> {answer}"), printed.next().unwrap_or_default());
+            if given != expected {
+                let calls: String = list[..=at].iter().map(|(call, _)| format!("{call}\n")).collect();
+                return format!(
+                    "a list differs at its call {}, its calls so far:\n{calls}the model says\n{expected}\nand the program\n{given}",
+                    at + 1
+                );
+            }
+        }
+    }
+    "the answers are equal, and what the program prints after the last one differs".into()
+}
+
+/// What the program prints for lines of calls, and how it ended where it failed. The lines are written while it is read, so that neither
+/// pipe fills up.
+fn printed(lines: &str) -> std::io::Result<String> {
+    let mut process = Command::new(PROGRAM).stdin(Stdio::piped()).stdout(Stdio::piped()).spawn()?;
+    let mut input = process.stdin.take().expect("a pipe was asked for");
+    let output = thread::scope(|scope| {
+        // a program that ends too early answers too few of them
+        scope.spawn(move || input.write_all(lines.as_bytes()));
+        process.wait_with_output()
+    })?;
+    let mut printed = String::from_utf8_lossy(&output.stdout).into_owned();
+    if !output.status.success() {
+        printed += &output.status.to_string();
+    }
+    Ok(printed)
+}
