@@ -27,7 +27,7 @@ pub struct Buffer {
 /// What an accepted call gives.
 #[derive(Clone, Debug)]
 pub enum Answer {
-    /// How many bytes a laying or a taking used.
+    /// How many bytes a laying or a taking used, none where the sheet in force is taken once more.
     Used(usize),
     Run,
     Report(Report),
@@ -200,16 +200,30 @@ mod tests {
         }
     }
 
+    /// The papers' road of one segment with two lanes.
+    const ROAD: &str = "lay 01be012d07a80a023cb022000000";
+    /// A sheet for it, 4,800 vehicles an hour on both lanes.
+    const OPEN: &str = "take 01c025904e000002";
+    /// The same with one of the lanes closed.
+    const CLOSED: &str = "take 01c025904e000001";
+    /// The same with three of them open.
+    const TOO_MANY_OPEN: &str = "take 01c025904e000003";
+    /// The sheet in force once more.
+    const REPEAT: &str = "take -";
+
     /// The model's answers to calls, one after the other.
-    fn answers<const N: usize>(calls: [&str; N]) -> [String; N] {
+    fn played(calls: &[&str]) -> Vec<String> {
         let mut player = Player::<Entry>::new();
-        calls.map(|call| told(&player.play(&call.parse().unwrap())))
+        calls.iter().map(|call| told(&player.play(&call.parse().unwrap()))).collect()
+    }
+
+    fn answers<const N: usize>(calls: [&str; N]) -> [String; N] {
+        played(&calls).try_into().expect("an answer to each call")
     }
 
     #[test]
     fn the_papers_study_call_by_call() {
-        let calls =
-            ["lay 01be012d07a80a023cb022000000", "take 01c025904e000002", "run 3", "totals", "report 1", "report 2"];
+        let calls = [ROAD, OPEN, "run 3", "totals", "report 1", "report 2"];
         let [laid, taken, run, totals, first, second] = answers(calls);
         assert_eq!([laid, taken, run, second], ["ok used 14", "ok used 8", "ok", "refused 6 0"]);
         assert_eq!(totals, "ok arrived 14400 left 8492 stored 5908 partsteps 15908");
@@ -218,9 +232,8 @@ mod tests {
 
     #[test]
     fn a_sheet_is_written_where_it_fits() {
-        let road = "lay 01be012d07a80a023cb022000000";
         let [_, exact, short, past, far, none] = answers([
-            road,
+            ROAD,
             "write-road 20 6",
             "write-road 20 7",
             "write-road 14 15",
@@ -237,5 +250,96 @@ mod tests {
         let calls = ["totals", "run 0", "lay -", "report 0", "take -", "write-road 0", "write-period"];
         let nine = "refused 9 0";
         assert_eq!(answers(calls), [nine, nine, "refused 1 0", nine, nine, nine, nine]);
+    }
+
+    #[test]
+    fn repeats_in_a_row_are_the_sheet_typed_again() {
+        let under = |again| {
+            let calls =
+                [ROAD, CLOSED, "run 60", again, "run 7", "report 1", "run 53", again, "run 60", "report 1", "totals"];
+            let [_, _, _, second, _, within, _, third, _, report, totals] = answers(calls);
+            ([second, third], [within, report, totals])
+        };
+        let (used, repeated) = under(REPEAT);
+        assert_eq!(used, ["ok used 0"; 2]);
+        assert_eq!(repeated, under(CLOSED).1);
+        assert_ne!(repeated, under(OPEN).1);
+        // three periods of 60 * 4,800
+        assert!(repeated[2].starts_with("ok arrived 864000 "), "{}", repeated[2]);
+    }
+
+    #[test]
+    fn without_a_sheet_nothing_is_repeated() {
+        let calls = [ROAD, REPEAT, TOO_MANY_OPEN, REPEAT, "write-period", OPEN, "run 60", ROAD, REPEAT, "totals"];
+        let [_, first, bad, after_bad, written, taken, _, _, anew, totals] = answers(calls);
+        assert_eq!([first, after_bad, written, anew], ["refused 10 0"; 4]);
+        assert_eq!([bad, taken], ["refused 4 7", "ok used 8"]);
+        assert_eq!(totals, "ok arrived 0 left 0 stored 0 partsteps 0");
+    }
+
+    #[test]
+    fn a_sheet_is_repeated_for_60_steps_once_it_is_run_out() {
+        let calls = [ROAD, OPEN, REPEAT, "run 59", REPEAT, "run 1", REPEAT, REPEAT, "run 61", "run 60", "run 1"];
+        let [_, _, unspent, _, one_left, _, run_out, unspent_again, too_many, all, none_left] = answers(calls);
+        assert_eq!([unspent, one_left, unspent_again], ["refused 12 0"; 3]);
+        assert_eq!([run_out, all], ["ok used 0", "ok"]);
+        assert_eq!([too_many, none_left], ["refused 5 0", "refused 11 0"]);
+    }
+
+    #[test]
+    fn a_refused_sheet_is_not_repeated() {
+        let short = "take 01c025904e00";
+        let calls =
+            [ROAD, CLOSED, "run 60", TOO_MANY_OPEN, REPEAT, "run 60", short, REPEAT, "write-period", "report 1"];
+        let [_, _, _, bad, after_bad, _, short, after_short, written, report] = answers(calls);
+        assert_eq!([bad, short], ["refused 4 7", "refused 1 6"]);
+        assert_eq!([after_bad, after_short], ["ok used 0"; 2]);
+        assert_eq!(written, "ok 01c025904e000001");
+        assert!(report.starts_with("ok n 2046 ") && report.contains(" D total-off "), "{report}");
+    }
+
+    #[test]
+    fn a_single_byte_is_a_sheet() {
+        let calls = [ROAD, "take 00", OPEN, "take 00", "run 60", "take 00", "run 1"];
+        let [_, first, _, unspent, _, run_out, run] = answers(calls);
+        assert_eq!([first, run_out], ["refused 14 0"; 2]);
+        assert_eq!([unspent, run], ["refused 12 0", "refused 11 0"]);
+    }
+
+    #[test]
+    fn letters_go_by_the_open_lanes_of_the_repeated_sheet() {
+        let calls = [ROAD, CLOSED, "run 60", "report 1", REPEAT, "report 1", "run 60", "report 1"];
+        let [_, _, _, before, _, unspent, _, run_out] = answers(calls);
+        // 22 * 2,046 is above 26 * 1,320 and at most 35 * 1,320; with both lanes it would be B
+        for report in [&before, &unspent, &run_out] {
+            assert!(report.starts_with("ok n 2046 ") && report.contains(" D total-off "), "{report}");
+        }
+        assert_eq!(unspent, before);
+        assert_ne!(run_out, before);
+    }
+
+    #[test]
+    fn after_a_repeat_the_sheet_in_force_is_written() {
+        let calls = [ROAD, "take 01c025904e000001ffff", "run 60", REPEAT, "write-period", "write-period 8 0"];
+        let [_, with_tail, _, _, unspent, exact] = answers(calls);
+        assert_eq!(with_tail, "ok used 8");
+        assert_eq!([unspent, exact], ["ok 01c025904e000001"; 2]);
+        let calls = [ROAD, CLOSED, "run 60", REPEAT, "run 60", REPEAT, "run 9", "write-period", "write-period 7 0"];
+        let [.., begun, short] = answers(calls);
+        assert_eq!([begun, short], ["ok 01c025904e000001", "refused 7 0"]);
+    }
+
+    #[test]
+    fn repeats_count_among_the_96_periods() {
+        let mut calls = vec![ROAD, OPEN];
+        calls.extend(["run 60", REPEAT].repeat(95));
+        calls.extend([REPEAT, "run 60", REPEAT, "take 00", OPEN, "totals"]);
+        let answers = played(&calls);
+        let repeats = answers.iter().filter(|answer| *answer == "ok used 0").count();
+        let [unspent, run, repeat, byte, sheet, totals] = &answers[answers.len() - 6..] else { unreachable!() };
+        assert_eq!((repeats, unspent.as_str(), run.as_str()), (95, "refused 12 0", "ok"));
+        assert_eq!([repeat, byte, sheet], ["refused 13 0"; 3]);
+        // 96 * 60 * 4,800
+        assert!(totals.starts_with("ok arrived 27648000 "), "{totals}");
     }
 }

@@ -1,4 +1,4 @@
-//! Compares the forecast engine with an independent model of documents 01 and 02, and times it against two versions in
+//! Compares the forecast engine with an independent model of documents 01 and 02, and times it against two versions in
 //! Rust.
 
 mod bench;

@@ -1,5 +1,5 @@
-//! A model of documents 01 and 02 (Q-1, closed lanes; Q-2, conversion; Q-3, the split's remainder; Q-4, the off-ramp's total),
-//! written from the documents alone and for reading, not for speed.
+//! A model of documents 01 and 02 (Q-1, closed lanes; Q-2, conversion; Q-3, the split's remainder; Q-4, the off-ramp's total; Q-5,
+//! a sheet repeated by no bytes), written from the documents alone and for reading, not for speed.
 
 pub mod convert;
 pub mod facility;
@@ -106,15 +106,24 @@ mod tests {
         }
     }
 
-    /// Runs a study step by step as far as its sheets are accepted, the totals looked at after each step.
-    fn run_with_exact_totals(study: &[u8]) -> Option<Facility> {
+    /// Makes a period's steps one by one, the totals looked at after each.
+    fn run_with_exact_totals(facility: &mut Facility) {
+        for _ in 0..60 {
+            facility.run(1).unwrap();
+            totals_are_exact(facility);
+        }
+    }
+
+    /// Runs a study as far as its sheets are accepted, and the last of them once more.
+    fn run_and_repeated(study: &[u8]) -> Option<Facility> {
         let (mut facility, mut start) = Facility::<Entry>::lay(study).ok()?;
-        while let Ok(used) = facility.take(&study[start..]) {
-            for _ in 0..60 {
-                facility.run(1).unwrap();
-                totals_are_exact(&facility);
-            }
+        while start < study.len() {
+            let Ok(used) = facility.take(&study[start..]) else { break };
+            run_with_exact_totals(&mut facility);
             start += used;
+        }
+        if facility.take(&[]).is_ok() {
+            run_with_exact_totals(&mut facility);
         }
         Some(facility)
     }
@@ -124,7 +133,7 @@ mod tests {
         let (mut runs, mut with_remainder) = (0, 0);
         // every style is among so many
         for study in (0..1_000).map(|seed| random::study(seed, random::Layout::OFTEN_CLOSED)) {
-            if let Some(facility) = run_with_exact_totals(&study).filter(|facility| facility.periods() > 1) {
+            if let Some(facility) = run_and_repeated(&study).filter(|facility| facility.periods() > 2) {
                 runs += 1;
                 with_remainder += usize::from(facility.remainders().iter().any(|&remainder| remainder > 0));
             }

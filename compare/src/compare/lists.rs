@@ -28,13 +28,45 @@ struct Tally {
     calls: BTreeMap<&'static str, (u64, u64)>,
     refused: BTreeMap<u64, u64>,
     days: u64,
+    repeats: Repeats,
     off: u64,
     undivided: u64,
+}
+
+/// How many takings of no bytes, which repeat the sheet in force, came to what.
+#[derive(Default)]
+struct Repeats {
+    accepted: u64,
+    /// The accepted ones of a sheet that closes a lane.
+    closed_lane: u64,
+    refused: BTreeMap<u64, u64>,
+}
+
+impl Repeats {
+    fn add(&mut self, answer: &Result<Answer, Refusal>, facility: Option<&Facility>) {
+        match answer {
+            Ok(_) => {
+                self.accepted += 1;
+                self.closed_lane += u64::from(facility.is_some_and(Facility::has_closed_lane));
+            }
+            Err(Refusal { number, .. }) => *self.refused.entry(*number).or_default() += 1,
+        }
+    }
+
+    fn print(&self) {
+        println!("of the accepted takes {} repeat the sheet in force,", self.accepted);
+        println!("  {} of these one that closes a lane;", self.closed_lane);
+        let refused = self.refused.iter().map(|(number, count)| format!("{number} {count}"));
+        println!("  repeats refused by number: {}", refused.collect::<Vec<_>>().join(", "));
+    }
 }
 
 impl Tally {
     /// Counts a call's answer; the facility is as the call left it.
     fn add(&mut self, call: &Call, answer: &Result<Answer, Refusal>, facility: Option<&Facility>) {
+        if matches!(call, Call::Take(bytes) if bytes.is_empty()) {
+            self.repeats.add(answer, facility);
+        }
         let (accepted, refused) = self.calls.entry(call.name()).or_default();
         if let Err(Refusal { number, .. }) = answer {
             *refused += 1;
@@ -61,6 +93,7 @@ impl Tally {
         for (name, (accepted, refused)) in &self.calls {
             println!("{name:<12}   {accepted:>7}  {refused:>7}");
         }
+        self.repeats.print();
         println!("of the accepted reports {} have a total-off above 0;", self.off);
         println!("  of these {} a total-y whose share is no whole number of parts", self.undivided);
         print_refused(&self.refused);
@@ -180,4 +213,33 @@ fn printed(lines: &str) -> std::io::Result<String> {
         printed += &output.status.to_string();
     }
     Ok(printed)
+}
+
+#[cfg(test)]
+mod tests {
+    use super::*;
+
+    /// A call and its answer.
+    type Line<'a> = (&'a str, &'a str);
+
+    const REPEATED: Line = ("take -", "ok used 0");
+
+    #[test]
+    fn random_lists_repeat_sheets() {
+        let (mut tally, mut seeds, mut lists) = (Tally::default(), Random::new(1), Vec::new());
+        while calls_of(&lists) < 20_000 {
+            lists.extend(played(&mut seeds, CALLS_OF_A_PROCESS, &mut tally));
+        }
+        let Repeats { accepted, closed_lane, refused } = tally.repeats;
+        assert!(accepted > 400 && closed_lane > 150, "{accepted} repeats, {closed_lane} with a closed lane");
+        assert_eq!(refused.into_keys().collect::<Vec<_>>(), [9, 10, 12, 13]);
+        let lines = lists.iter().flatten().map(|(call, answer)| -> Line { (call, answer) });
+        let takings: Vec<Line> = lines.filter(|(call, _)| call.starts_with("take ")).collect();
+        let repeated_after =
+            |is: fn(Line) -> bool| takings.windows(2).filter(|two| is(two[0]) && two[1] == REPEATED).count();
+        let in_a_row = repeated_after(|taking| taking == REPEATED);
+        let after_refused = repeated_after(|(_, answer)| answer.starts_with("refused 4 "));
+        assert!(in_a_row > 50 && after_refused > 10, "{in_a_row} in a row, {after_refused} after a refused sheet");
+        assert!(takings.contains(&("take 00", "refused 14 0")));
+    }
 }

@@ -70,7 +70,8 @@ impl<E: Layout> Facility<E> {
         Ok((facility, used))
     }
 
-    /// Takes the period at the front of `bytes`; gives how many bytes it took.
+    /// Takes the period at the front of `bytes`, or where there is no byte the sheet in force once more; gives how many bytes
+    /// it took.
     pub fn take(&mut self, bytes: &[u8]) -> Result<usize, Refusal> {
         if matches!(self.in_force, Some((_, made)) if made < STEPS_OF_A_PERIOD) {
             return Err(Refusal::plain(12));
@@ -78,9 +79,25 @@ impl<E: Layout> Facility<E> {
         if self.taken == MOST_PERIODS {
             return Err(Refusal::plain(13));
         }
+        let used = match bytes {
+            [] => self.repeat()?,
+            _ => self.read(bytes)?,
+        };
+        self.taken += 1;
+        Ok(used)
+    }
+
+    /// Begins a new period under the sheet in force, which stays as it is; no byte is used.
+    fn repeat(&mut self) -> Result<usize, Refusal> {
+        let (_, made) = self.in_force.as_mut().ok_or(Refusal::plain(10))?;
+        *made = 0;
+        Ok(0)
+    }
+
+    /// Begins a period under the sheet at the front of the bytes; gives how many bytes it took.
+    fn read(&mut self, bytes: &[u8]) -> Result<usize, Refusal> {
         let (period, used) = sheets::read_period(bytes, &self.road)?;
         self.put_in_force(period);
-        self.taken += 1;
         Ok(used)
     }
 
@@ -140,7 +157,7 @@ impl<E: Layout> Facility<E> {
         Totals { arrived: self.arrived, left: self.left, stored: self.state.stored(), part_steps: self.part_steps }
     }
 
-    /// How many period sheets were taken.
+    /// How many periods were taken, repeats of a sheet too.
     pub fn periods(&self) -> u64 {
         self.taken
     }

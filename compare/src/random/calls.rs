@@ -16,7 +16,12 @@ pub struct List {
     day: bool,
     /// How many calls are still to be made, after that day.
     more: u64,
+    /// In how many percent of the takings no bytes are given, which repeat the sheet in force; before any sheet in a quarter at most.
+    repeating: u64,
 }
+
+/// Most lists repeat a sheet now and then, some take hardly a new one.
+const REPEATING: [u64; 5] = [5, 15, 25, 25, 80];
 
 /// A road, mostly in light traffic, where off-ramps get less than a part a step; a short one where a whole day is run on it.
 fn road(random: &mut Random, day: bool) -> Fields {
@@ -46,7 +51,8 @@ impl List {
         let day = random.chance(4);
         let more = if random.chance(25) { random.within(1, 15) } else { random.within(20, 160) };
         let lays = !on_empty || random.chance(50);
-        List { road: road(&mut random, day), random, lays, day, more }
+        let repeating = random.pick(&REPEATING);
+        List { road: road(&mut random, day), random, lays, day, more, repeating }
     }
 
     /// The next call, on the facility as the calls before left it; none at the list's end.
@@ -63,7 +69,7 @@ impl List {
             _ if std::mem::take(&mut self.lays) => self.lay(),
             None if self.random.chance(60) => self.lay(),
             _ if self.random.chance(percent_onward) => match remaining {
-                0 => self.take(),
+                0 => self.take(facility),
                 _ => self.run(remaining),
             },
             _ => self.any(facility, remaining),
@@ -84,7 +90,7 @@ impl List {
                 Call::WritePeriod(self.buffer(written))
             }
             75..=84 => self.run(remaining),
-            85..=95 => self.take(),
+            85..=95 => self.take(facility),
             _ if self.day => Call::Totals,
             _ => self.lay(),
         }
@@ -99,14 +105,24 @@ impl List {
         Call::Lay(if self.day { sheet.bytes() } else { self.bytes(sheet) })
     }
 
-    /// A sheet for the road, or for another, or of the first layout.
-    fn take(&mut self) -> Call {
+    /// No bytes, or a sheet for the road, or for another, or of the first layout.
+    fn take(&mut self, facility: Option<&Facility>) -> Call {
+        let has_sheet = facility.is_some_and(|facility| facility.periods() > 0);
+        let percent = if has_sheet { self.repeating } else { self.repeating.min(25) };
+        if self.random.chance(percent) {
+            return self.repeat();
+        }
         let sheet = match self.random.within(1, 100) {
             1..=5 => road(&mut self.random, true).sheet(Layout::OFTEN_CLOSED),
             6..=8 => self.road.sheet(Layout::First),
             _ => self.road.sheet(Layout::OFTEN_CLOSED),
         };
         Call::Take(self.bytes(sheet))
+    }
+
+    /// No bytes; now and then a single one, which is a sheet whose NS is wrong.
+    fn repeat(&mut self) -> Call {
+        Call::Take(if self.random.chance(6) { vec![0] } else { Vec::new() })
     }
 
     /// A sheet's bytes, mostly as they are, at times with others behind them or damaged.

@@ -1,6 +1,6 @@
 // Plays lists of calls from standard input, one call a line, and prints each line again with its answer:
 //     lay HEX    take HEX    run K    report SEGMENT    totals    write-road [ROOM [PLACE]]    write-period [ROOM [PLACE]]
-// HEX is bytes in hexadecimal, `-` for none. ROOM is that of the buffer, up to 65,536, which is also the default; PLACE is 0 by default.
+// HEX is bytes in hexadecimal, `-` for none: `take -` takes the sheet in force once more. ROOM is that of the buffer, up to 65,536, which is also the default; PLACE is 0 by default.
 #![tactic(auto)]
 
 use door::Facility;

@@ -3,7 +3,6 @@ use Prim.Native.Nat.{ℕ}
 use mathlib.Core.Bool.{true, false}
 use mathlib.Core.Path.{◌≡◌}
 use mathlib.Core.List.{List}
-use Rattle.numbers.specs.Row.{Rows}
 use Rattle.sheets.specs.Read.{read_period}
 use Rattle.sheets.specs.Write.{row_bytes, road_row, period_row}
 use Rattle.conditions.specs.Conditions.{segments}
@@ -11,7 +10,7 @@ use Rattle.steps.specs.Step.{stored_of}
 use Rattle.door.specs.declared.Facility.{Facility}
 use Rattle.door.specs.Sound.{sound}
 use Rattle.facility.specs.Calls.{refused, taken_by, take_of, ran_by, run_of, no_report, reported_by, report_of, no_sums, totals_of, not_written, wrote_bytes, wrote_by, write_road_of, write_period_of}
-use Rattle.facility.specs.Verdicts.{Verdict, take_verdict, run_verdict, report_verdict, period_verdict}
+use Rattle.facility.specs.Verdicts.{Verdict, Taking, take_verdict, run_verdict, report_verdict, period_verdict}
 
 -- ---- the empty facility
 module _ (f : Facility) (e : sound f ≡ false) where
@@ -41,9 +40,9 @@ module _ (f : Facility) (e : sound f ≡ false) where
 
 -- ---- a sound one, by the verdict
 module _ (f : Facility) (e : sound f ≡ true) where
-  pub take_by_lem : (bytes : List ℕ) (r : Rows) → take_verdict (read_period f.road) f.taken f.made bytes ≡ r → take_of f bytes ≡ taken_by f r
+  pub take_by_lem : (bytes : List ℕ) (t : Taking) → take_verdict (read_period f.road) f.taken f.made bytes ≡ t → take_of f bytes ≡ taken_by f t
   unfolding take_of
-  take_by_lem bytes r v = rw (e, v)
+  take_by_lem bytes t v = rw (e, v)
 
   pub run_by : (k : ℕ) (v : Verdict) → run_verdict f.taken f.made k ≡ v → run_of f k ≡ ran_by f k v
   unfolding run_of

@@ -19,8 +19,8 @@ use Rattle.door.specs.declared.Facility.{Facility}
 use Rattle.facility.specs.declared.Laid as code
 use Rattle.door.specs.Sound.{sound}
 use Rattle.facility.specs.Calls.{Reply, ReportReply, SumsReply, laid_by, lay_of, take_of, run_of, report_of, totals_of}
-use Rattle.facility.specs.Ledger.{Call, Take, Run, Report, Totals, Answer, tally_of, Book, Rules, present, take_by, opened, with_row, with_steps, with_run, answer, after_by, after, answers, book_after}
-use Rattle.facility.specs.Verdicts.{Verdict, GoesOn, RefusedBy, run_verdict}
+use Rattle.facility.specs.Ledger.{Call, Take, Run, Report, Totals, Answer, tally_of, Book, Rules, present, take_by, opened, with_taking, with_steps, with_run, answer, after_by, after, answers, book_after}
+use Rattle.facility.specs.Verdicts.{Verdict, GoesOn, RefusedBy, Taking, NewSheet, SameSheet, NotTaken, run_verdict}
 use Rattle.facility.specs.Statement.{ListStatement, AcceptedRoad, road_of}
 use Rattle.facility.specs.Answers.{take_says, run_says, report_says, totals_say}
 use Rattle.facility.specs.Claims.{Every}
@@ -116,9 +116,10 @@ some [] b h = stop
 some (c ∷ cs) b h = next (some_call b h c) (some cs (after b c) (kept_after b c h))
 
 -- ---- no call changes the road
-road_of_row : (b : Book) (r : Rows) → (with_row b r).road ≡ b.road
-road_of_row b (ReadRow row used) = refl
-road_of_row b (RefusedAt e at) = refl
+road_taken : (b : Book) (t : Taking) → (with_taking b t).road ≡ b.road
+road_taken b (NewSheet row used) = refl
+road_taken b SameSheet = refl
+road_taken b (NotTaken number offset) = refl
 
 -- what the steps of a run leave as it was, a run does
 pub run_keeps : {A : Type 0} (rules : Rules) (field : Book → A) (b : Book) (k : ℕ) → field (with_steps rules k b) ≡ field b
@@ -130,7 +131,7 @@ run_keeps rules field b k e = by (run_verdict b.taken b.made k)
     by (RefusedBy number) = refl
 
 road_after : (b : Book) (c : Call) → (after b c).road ≡ b.road
-road_after b (Take bytes) = road_of_row b (take_by present b bytes)
+road_after b (Take bytes) = road_taken b (take_by present b bytes)
 road_after b (Run k) = run_keeps present (λ b. b.road) b k refl
 road_after b (Report i) = refl
 road_after b Totals = refl

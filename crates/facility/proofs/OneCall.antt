@@ -17,9 +17,9 @@ use Rattle.conditions.proofs.Good.{conditions_segments}
 use Rattle.door.specs.Sound.{sheeted, sound}
 use Rattle.running.specs.Steps.{sheet_by, conditions_on, step_of, steps_of}
 use Rattle.facility.specs.Calls.{Reply, fresh_on, with_sheet, taken_by, take_of, ran_by, run_of, level_at, reported_by, report_of, totals_of}
-use Rattle.facility.specs.Ledger.{Take, Run, Report, Totals, state_after, arrived_in, left_in, partsteps_in, step_from, more_steps, Book, present, conditions_by, take_by, opened, taken_as, with_row, with_steps, ran_as, with_run, reported_as, answer, after}
-use Rattle.facility.specs.Verdicts.{Verdict, GoesOn, RefusedBy, run_verdict, report_verdict}
-use Rattle.facility.proofs.Verdicts.{take_named, run_named, report_named, report_accepted}
+use Rattle.facility.specs.Ledger.{Take, Run, Report, Totals, state_after, arrived_in, left_in, partsteps_in, step_from, more_steps, Book, present, conditions_by, take_by, opened, taken_as, with_taking, with_steps, ran_as, with_run, reported_as, answer, after}
+use Rattle.facility.specs.Verdicts.{Verdict, GoesOn, RefusedBy, Taking, NotTaken, as_read, run_verdict, report_verdict}
+use Rattle.facility.proofs.Verdicts.{take_cases, run_named, report_named, report_accepted}
 use Rattle.facility.proofs.Cases.{take_by_lem, run_by, report_by, totals_sound}
 use Rattle.facility.specs.View.{row_in, view}
 use Rattle.facility.specs.Answers.{take_says, run_says, report_says, totals_say}
@@ -62,7 +62,7 @@ sound_view b f = sound_is (view b) (record {
 
 -- a step of the facility is a step of the book
 abbrev step_more : Book → Conditions → Book
-step_more b c = record { road = b.road; sheet = b.sheet; taken = b.taken; made = b.made + 1; trail = step_from c (state_after b.trail) ∷ b.trail }
+step_more b c = record b { made = b.made + 1; trail = step_from c (state_after b.trail) ∷ b.trail }
 
 one : (b : Book) → road_allowed b.road ≡ true → length (state_after b.trail).cells ≡ 64
     → step_of (view b) ≡ view (step_more b (conditions_on (view b)))
@@ -78,25 +78,33 @@ steps_view b k (suc n) =
     ap step_of (steps_view b k n)
     ∙ one (with_steps present n b) k.road (cells_more (conditions_by present b) n b.trail ∙ k.kept.cells)
     ∙ ap (λ (c : Conditions). view (step_more (with_steps present n b) c)) (in_force_view b k.sheet)
-    ∙ ap (λ (m : ℕ). view (record {
-      road = b.road;
-      sheet = b.sheet;
-      taken = b.taken;
-      made = m;
-      trail = more_steps (conditions_by present b) (suc n) b.trail;
-    })) (omega arith)
+    ∙ ap (λ (m : ℕ). view (record b { made = m; trail = more_steps (conditions_by present b) (suc n) b.trail })) (omega arith)
 
-row_by : (b : Book) (r : Rows) → ((e at : ℕ) → r ≡ RefusedAt e at → 1 ≤ e)
-    → (take_says (taken_by (view b) r) ≡ taken_as r) × ((taken_by (view b) r).facility ≡ view (with_row b r))
-unfolding with_sheet
-row_by b (ReadRow row used) h = (refl, refl)
-row_by b (RefusedAt e at) h = (rw (named e (h e at refl)), refl)
+-- a taking, by its verdict: the call answers and leaves what the ledger does
+Takes : Book → Taking → Type 0
+Takes b t = (take_says (taken_by (view b) t) ≡ taken_as t) × ((taken_by (view b) t).facility ≡ view (with_taking b t))
+
+not_taken : (b : Book) (e at : ℕ) → 1 ≤ e → Takes b (NotTaken e at)
+unfolding Takes
+not_taken b e at h = (rw (named e h), refl)
+
+takes_reading : (b : Book) (r : Rows) → ((e at : ℕ) → r ≡ RefusedAt e at → 1 ≤ e) → Takes b (as_read r)
+unfolding Takes with_sheet
+takes_reading b (ReadRow row used) h = (refl, refl)
+takes_reading b (RefusedAt e at) h = not_taken b e at (h e at refl)
+
+takes_by : (b : Book) (bytes : List ℕ) → Takes b (take_by present b bytes)
+unfolding Takes with_sheet
+takes_by b bytes =
+    take_cases (read_period b.road) b.taken b.made bytes (Takes b) (not_taken b 12 0 (omega arith)) (not_taken b 13 0 (omega arith)) (not_taken b 10 0 (omega arith))
+    (λ idle room some. (refl, refl)) (λ idle room. takes_reading b (read_period b.road bytes) (period_refusal b.road bytes))
 
 pub takes : (b : Book) (bytes : List ℕ) → KeptBook b
     → (take_says (take_of (view b) bytes) ≡ answer b (Take bytes)) × ((take_of (view b) bytes).facility ≡ view (after b (Take bytes)))
+unfolding Takes
 takes b bytes f =
     let v = take_by_lem (view b) (sound_view b f) bytes _ refl in
-    let r = row_by b (take_by present b bytes) (take_named (read_period b.road) b.taken b.made bytes (period_refusal b.road bytes)) in
+    let r = takes_by b bytes in
     (ap take_says v ∙ r.0, ap (λ (q : Reply). q.facility) v ∙ r.1)
 
 ran_by_lem : (b : Book) → KeptBook b → (k : ℕ) (v : Verdict) → ((e : ℕ) → v ≡ RefusedBy e → 1 ≤ e)

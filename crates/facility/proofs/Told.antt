@@ -3,7 +3,7 @@ use Prim.Native.Nat.{ℕ, ◌-◌}
 use mathlib.Core.Bool.{Bool, true, false}
 use mathlib.Core.Path.{◌≡◌, refl, ap}
 use mathlib.Core.List.{List}
-use lib.Dec.{leb, ltb, eqb}
+use lib.Dec.{ltb, eqb}
 use Rattle.std.specs.Prelude.{Result, Ok, Err, if◌then◌else◌}
 use Rattle.refusals.specs.declared.Refusal.{Refusal}
 use Rattle.refusals.specs.declared.Refusal.TheVariants.{NoSuchRun, NoSuchSegment, EmptyFacility, NoPeriod, TooFewSteps, Unfinished, TooManyPeriods}
@@ -22,7 +22,8 @@ use Rattle.facility.specs.declared.SegmentReport.{SegmentReport}
 use Rattle.facility.specs.declared.Sums.{Sums}
 use Rattle.facility.specs.Calls.{empty, refused, laid_by, lay_of, taken_by, take_of, ran_by, run_of, level_at, no_report, reported_by, report_of, no_sums, totals_of}
 use Rattle.facility.specs.Results.{replied, ran, report_told, sums_told}
-use Rattle.facility.specs.Verdicts.{Verdict, GoesOn, RefusedBy, outside, unfinished, take_verdict, run_verdict, report_verdict}
+use Rattle.facility.specs.Verdicts.{Verdict, GoesOn, RefusedBy, Taking, NewSheet, SameSheet, NotTaken, as_read, outside, take_verdict, run_verdict, report_verdict}
+use Rattle.facility.proofs.Verdicts.{take_cases}
 
 -- the number of a refusal
 abbrev pub IsRefusal : ℕ → Type 0
@@ -49,16 +50,22 @@ either : (x : Bool) (v w : Verdict) → ToldVerdict v → ToldVerdict w → Told
 either true v w p q = p
 either false v w p q = q
 
-either_row : (x : Bool) (v w : Rows) → ToldRow IsRefusal v → ToldRow IsRefusal w → ToldRow IsRefusal (if x then v else w)
-either_row true v w p q = p
-either_row false v w p q = q
+ToldTaking : Taking → Type 0
+ToldTaking (NewSheet row used) = Unit {0}
+ToldTaking SameSheet = Unit {0}
+ToldTaking (NotTaken number offset) = IsRefusal number
 
-told_take : (f : Facility) (bytes : List ℕ) → ToldRow IsRefusal (take_verdict (read_period f.road) f.taken f.made bytes)
-unfolding take_verdict
+told_reading : (r : Rows) → ToldRow IsRefusal r → ToldTaking (as_read r)
+unfolding ToldTaking
+told_reading (ReadRow row used) h = tt
+told_reading (RefusedAt number offset) h = h
+
+told_take : (f : Facility) (bytes : List ℕ) → ToldTaking (take_verdict (read_period f.road) f.taken f.made bytes)
+unfolding ToldTaking
 told_take f bytes =
-    let reads = told_period IsRefusal each f.road bytes in
-    let full = either_row (leb 96 f.taken) (RefusedAt 13 0) _ (TooManyPeriods, refl) reads in
-    either_row (unfinished f.taken f.made) (RefusedAt 12 0) _ (Unfinished, refl) full
+    let reads = told_reading _ (told_period IsRefusal each f.road bytes) in
+    take_cases (read_period f.road) f.taken f.made bytes ToldTaking (Unfinished, refl) (TooManyPeriods, refl) (NoPeriod, refl)
+    (λ idle room some. tt) (λ idle room. reads)
 
 told_run : (taken made k : ℕ) → ToldVerdict (run_verdict taken made k)
 unfolding run_verdict
@@ -82,11 +89,13 @@ lay_told bytes = laid_told (read_road bytes) (told_road IsRefusal each bytes)
 
 -- ---- a taking
 module _ (f : Facility) where
-  taken_told : (x : Rows) → ToldRow IsRefusal x → (r : Result ℕ Refused) × (replied r (taken_by f x).facility ≡ taken_by f x)
-  taken_told (ReadRow row used) t = (Ok used, refl)
-  taken_told (RefusedAt number at) t = (Err (record { refusal = t.0; offset = at }), ap (λ (n : ℕ). refused f n at) t.1)
+  taken_told : (t : Taking) → ToldTaking t → (r : Result ℕ Refused) × (replied r (taken_by f t).facility ≡ taken_by f t)
+  unfolding ToldTaking
+  taken_told (NewSheet row used) h = (Ok used, refl)
+  taken_told SameSheet h = (Ok 0, refl)
+  taken_told (NotTaken number at) h = (Err (record { refusal = h.0; offset = at }), ap (λ (n : ℕ). refused f n at) h.1)
 
-  take_by_door : (x : Bool) (v : Rows) → ToldRow IsRefusal v
+  take_by_door : (x : Bool) (v : Taking) → ToldTaking v
       → (r : Result ℕ Refused) × (replied r (if x then taken_by f v else refused f 9 0).facility ≡ (if x then taken_by f v else refused f 9 0))
   take_by_door true v t = taken_told v t
   take_by_door false v t = (Err (record { refusal = EmptyFacility; offset = 0 }), refl)

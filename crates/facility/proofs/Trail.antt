@@ -12,7 +12,7 @@ use Rattle.parts.specs.Allowed.{road_allowed, period_allowed}
 use Rattle.parts.specs.Good.{GoodRoad}
 use Rattle.parts.proofs.Good.{good_road, good_period, read_period_allowed}
 use Rattle.numbers.specs.Row.{Rows, ReadRow, RefusedAt}
-use Rattle.sheets.specs.Read.{read_period, padded}
+use Rattle.sheets.specs.Read.{read_period}
 use Rattle.segment.specs.declared.Cell.{Cell}
 use Rattle.conditions.specs.Conditions.{Conditions, SheetInForce, None, Under, conditions_of, segments}
 use Rattle.steps.specs.Step.{cell_in, stepped, fresh_state, arrived_of, left_of, stored_of, sum_to}
@@ -24,9 +24,9 @@ use Rattle.steps.proofs.Laws.{stepped_length}
 use Rattle.steps.proofs.Bounds.{bounded_after, bounded_fresh, cell_fresh, arrived_most, left_most}
 use Rattle.steps.proofs.Claims.{stepped_holds}
 use Rattle.door.specs.Sound.{steps_by}
-use Rattle.facility.specs.Ledger.{Call, Take, Run, Report, Totals, Trail, state_after, arrived_in, left_in, partsteps_in, step_from, more_steps, Book, present, conditions_by, take_by, opened, with_row, with_run, after}
-use Rattle.facility.specs.Verdicts.{Verdict, GoesOn, RefusedBy, unfinished, run_verdict}
-use Rattle.facility.proofs.Verdicts.{take_accepted, run_accepted}
+use Rattle.facility.specs.Ledger.{Call, Take, Run, Report, Totals, Trail, state_after, arrived_in, left_in, partsteps_in, step_from, more_steps, Book, present, conditions_by, opened, with_period, with_taking, with_run, after}
+use Rattle.facility.specs.Verdicts.{Verdict, GoesOn, RefusedBy, as_read, unfinished, run_verdict}
+use Rattle.facility.proofs.Verdicts.{take_cases, run_accepted}
 use Rattle.facility.specs.Claims.{Every, none, and, Chained, start, link, Right, Balanced, nothing, still}
 use Rattle.facility.specs.View.{tallies_of}
 use Rattle.facility.proofs.Tallies.{OnRoad, on_road, no_tallies, tallies_more}
@@ -156,23 +156,27 @@ good_sheet_in b f = fits_good b.road (good_road b.road f.road) f.sheet
     fits_good road good unsheeted = none-sheet
     fits_good road good (sheeted_as some e) = under (good_period road _ good e)
 
--- a sheet taken, by the verdict: what it needs to have been accepted
-row_by : (b : Book) → KeptBook b → (r : Rows)
-    → ((row : List ℕ) (used : ℕ) → r ≡ ReadRow row used
-    → (unfinished b.taken b.made ≡ false) × (b.taken < 96) × (period_allowed b.road (padded row) ≡ true))
-    → KeptBook (with_row b r)
-unfolding unfinished
-row_by b f (ReadRow row used) h =
-    let a = h row used refl in
-    record {
-      road = f.road;
-      few = omega (arith, a.1);
-      short = omega arith;
-      sheet = sheeted_as {n = b.taken + 1} (omega arith) a.2;
-      made = f.made ∙ idle_steps b.taken b.made (ltb 0 b.taken) (ltb b.made 60) refl refl a.0 f.short;
-      kept = f.kept;
-    }
-row_by b f (RefusedAt e at) h = f
+-- the sheet in force still fits where it is taken once more
+fits_again : {road : List ℕ} {n : ℕ} {s : SheetInForce} → SheetFits road n s → 0 < n → SheetFits road (n + 1) s
+fits_again unsheeted some = absurd (omega (arith, some))
+fits_again (sheeted_as some e) again = sheeted_as (omega arith) e
+
+-- a taking, where no period is unfinished and fewer than 96 are taken
+module _ (b : Book) (f : KeptBook b) (idle : unfinished b.taken b.made ≡ false) (room : b.taken < 96) where
+  kept_period : (sheet : SheetInForce) → SheetFits b.road (b.taken + 1) sheet → KeptBook (with_period b sheet)
+  unfolding unfinished
+  kept_period sheet fits = record {
+    road = f.road;
+    few = omega (arith, room);
+    short = omega arith;
+    sheet = fits;
+    made = f.made ∙ idle_steps b.taken b.made (ltb 0 b.taken) (ltb b.made 60) refl refl idle f.short;
+    kept = f.kept;
+  }
+
+  kept_reading : (bytes : List ℕ) (r : Rows) → read_period b.road bytes ≡ r → KeptBook (with_taking b (as_read r))
+  kept_reading bytes (ReadRow row used) e = kept_period _ (sheeted_as (omega arith) (read_period_allowed b.road bytes row used e))
+  kept_reading bytes (RefusedAt number offset) e = f
 
 -- a run, by the verdict
 run_by : (b : Book) (k : ℕ) → KeptBook b → (v : Verdict) → (v ≡ GoesOn → (0 < b.taken) × (k ≤ 60 - b.made)) → KeptBook (with_run present b k v)
@@ -193,9 +197,9 @@ run_by b k f GoesOn h =
 
 pub kept_after : (b : Book) (c : Call) → KeptBook b → KeptBook (after b c)
 kept_after b (Take bytes) f =
-    row_by b f (take_by present b bytes) (λ row used e.
-    let a = take_accepted (read_period b.road) b.taken b.made bytes row used e in
-    (a.0, a.1, read_period_allowed b.road bytes row used a.2))
+    take_cases (read_period b.road) b.taken b.made bytes (λ t. KeptBook (with_taking b t)) f f f
+    (λ idle room some. kept_period b f idle room b.sheet (fits_again f.sheet some))
+    (λ idle room. kept_reading b f idle room bytes (read_period b.road bytes) refl)
 kept_after b (Run k) f = run_by b k f (run_verdict b.taken b.made k) (run_accepted b.taken b.made k)
 kept_after b (Report i) f = f
 kept_after b Totals f = f

@@ -4,56 +4,59 @@ use mathlib.Core.Bool.{Bool, true, false, ◌||◌}
 use mathlib.Core.Path.{◌≡◌, refl}
 use mathlib.Core.List.{List}
 use native.Mathlib.Omega.{arith}
+use lib.ListN.{length}
 use lib.Dec.{leb, ltb, eqb}
 use borrow.Author.Tests.{le-leb, lt-leb, le-ltb, eq-eqb, ne_eqb, leb-false, ltb-false}
 use Rattle.std.specs.Prelude.{if◌then◌else◌}
-use Rattle.numbers.specs.Row.{Rows, ReadRow, RefusedAt}
+use Rattle.numbers.specs.Row.{Rows}
 use Rattle.conditions.specs.Conditions.{segments}
-use Rattle.facility.specs.Verdicts.{GoesOn, RefusedBy, outside, unfinished, take_verdict, run_verdict, report_verdict, period_verdict}
+use Rattle.facility.specs.Verdicts.{GoesOn, RefusedBy, Taking, SameSheet, NotTaken, as_read, outside, unfinished, repeat_verdict, take_verdict, run_verdict, report_verdict, period_verdict}
 
 -- a call goes on where its check is passed
 pub passed : (x : Bool) (number : ℕ) → GoesOn ≡ (if x then GoesOn else RefusedBy number) → x ≡ true
 passed true number e = refl
 passed false number e = absurd (let z : ◌≡◌ {A = ℕ} 0 1 = cc in omega arith)
 
--- ---- taking a sheet
-module _ (read : List ℕ → Rows) (taken made : ℕ) (bytes : List ℕ) where
-  pub take_full : unfinished taken made ≡ false → 96 ≤ taken → take_verdict read taken made bytes ≡ RefusedAt 13 0
-  unfolding take_verdict
-  take_full u h = rw (u, le-leb _ _ h)
-
-  pub take_reads : unfinished taken made ≡ false → taken < 96 → take_verdict read taken made bytes ≡ read bytes
-  unfolding take_verdict
-  take_reads u h = rw (u, lt-leb _ _ h)
-
-  accepted_by : (r : Rows) (x y : Bool) (row : List ℕ) (used : ℕ) → unfinished taken made ≡ x → leb 96 taken ≡ y
-      → (if x then RefusedAt 12 0 else if y then RefusedAt 13 0 else r) ≡ ReadRow row used
-      → (unfinished taken made ≡ false) × (taken < 96) × (r ≡ ReadRow row used)
-  accepted_by r true y row used p q e = absurd (let z : ◌≡◌ {A = ℕ} 0 1 = cc in omega arith)
-  accepted_by r false true row used p q e = absurd (let z : ◌≡◌ {A = ℕ} 0 1 = cc in omega arith)
-  accepted_by r false false row used p q e = (p, leb-false _ _ q, e)
-
-  -- a sheet is taken only where no period is unfinished, fewer than 96 are taken and the reading accepts it
-  pub take_accepted : (row : List ℕ) (used : ℕ) → take_verdict read taken made bytes ≡ ReadRow row used
-      → (unfinished taken made ≡ false) × (taken < 96) × (read bytes ≡ ReadRow row used)
-  unfolding take_verdict
-  take_accepted row used e = accepted_by (read bytes) (unfinished taken made) (leb 96 taken) row used refl refl e
-
-  take_named_by : (r : Rows) (x y : Bool) → ((e at : ℕ) → r ≡ RefusedAt e at → 1 ≤ e) → (e at : ℕ)
-      → (if x then RefusedAt 12 0 else if y then RefusedAt 13 0 else r) ≡ RefusedAt e at → 1 ≤ e
-  take_named_by r true y h e at q = let n : 12 ≡ e = cc in omega arith
-  take_named_by r false true h e at q = let n : 13 ≡ e = cc in omega arith
-  take_named_by r false false h e at q = h e at q
-
-  pub take_named : ((e at : ℕ) → read bytes ≡ RefusedAt e at → 1 ≤ e) → (e at : ℕ) → take_verdict read taken made bytes ≡ RefusedAt e at → 1 ≤ e
-  unfolding take_verdict
-  take_named h e at q = take_named_by (read bytes) (unfinished taken made) (leb 96 taken) h e at q
-
--- ---- running
 nonzero : (n : ℕ) → eqb n 0 ≡ false → 0 < n
 nonzero zero e = absurd (let z : ◌≡◌ {A = ℕ} 0 1 = cc in omega arith)
 nonzero (suc n) e = omega arith
 
+-- ---- taking a sheet
+module _ (read : List ℕ → Rows) (taken made : ℕ) (bytes : List ℕ) where
+  pub take_full : unfinished taken made ≡ false → 96 ≤ taken → take_verdict read taken made bytes ≡ NotTaken 13 0
+  unfolding take_verdict
+  take_full u h = rw (u, le-leb _ _ h)
+
+  -- a sheet that has bytes is read
+  pub take_reads : unfinished taken made ≡ false → taken < 96 → 0 < length bytes → take_verdict read taken made bytes ≡ as_read (read bytes)
+  unfolding take_verdict
+  take_reads u h some = rw (u, lt-leb _ _ h, ne_eqb (length bytes) 0 (λ e. omega (arith, some)))
+
+  -- the verdict has P if each that the table can give has it: the three refusals; the same sheet and the reading, where neither 12 nor 13 holds
+  pub take_cases : (P : Taking → Type 0) → P (NotTaken 12 0) → P (NotTaken 13 0) → P (NotTaken 10 0)
+      → (unfinished taken made ≡ false → taken < 96 → 0 < taken → P SameSheet)
+      → (unfinished taken made ≡ false → taken < 96 → P (as_read (read bytes)))
+      → P (take_verdict read taken made bytes)
+  unfolding take_verdict repeat_verdict
+  take_cases P twelve thirteen ten same reads = checked (unfinished taken made) (leb 96 taken) refl refl
+    where
+      repeated : (x : Bool) → unfinished taken made ≡ false → taken < 96 → eqb taken 0 ≡ x → P (if x then NotTaken 10 0 else SameSheet)
+      repeated true idle room e = ten
+      repeated false idle room e = same idle room (nonzero taken e)
+
+      given : (x : Bool) → unfinished taken made ≡ false → taken < 96
+          → P (if x then (if eqb taken 0 then NotTaken 10 0 else SameSheet) else as_read (read bytes))
+      given true idle room = repeated (eqb taken 0) idle room refl
+      given false idle room = reads idle room
+
+      checked : (x y : Bool) → unfinished taken made ≡ x → leb 96 taken ≡ y
+          → P (if x then NotTaken 12 0 else if y then NotTaken 13 0
+          else if eqb (length bytes) 0 then (if eqb taken 0 then NotTaken 10 0 else SameSheet) else as_read (read bytes))
+      checked true y idle room = twelve
+      checked false true idle room = thirteen
+      checked false false idle room = given (eqb (length bytes) 0) idle (leb-false _ _ room)
+
+-- ---- running
 module _ (taken made k : ℕ) where
   module _ (l : 1 ≤ k) (m : k ≤ 60) where
     pub run_goes : (taken ≡ 0 → ⊥) → k ≤ 60 - made → run_verdict taken made k ≡ GoesOn

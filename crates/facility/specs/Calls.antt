@@ -1,5 +1,5 @@
--- Document 01, "Calls on a facility", and document 02, Q-4, the report's totals: what each call gives, as a whole, refused or not; beside a refusal
--- the facility as it came.
+-- Document 01, "Calls on a facility", and document 02, Q-4, the report's totals, and Q-5, the sheet in force once more: what each call gives, as a
+-- whole, refused or not; beside a refusal the facility as it came.
 use Rattle.std.specs.Prelude.{ℕ, ◌+◌, ◌-◌, List, replicate, if◌then◌else◌}
 use Rattle.numbers.specs.Writing.{Writing, Refused, write_answer, write_into}
 use Rattle.numbers.specs.Row.{Rows, ReadRow, RefusedAt}
@@ -15,7 +15,7 @@ use Rattle.steps.specs.Step.{cell_in, fresh_state, stored_of}
 use Rattle.steps.specs.Tallies.{fresh_tallies, tally_in}
 use Rattle.letters.specs.Level.{level_of}
 use Rattle.door.specs.declared.Facility.{Facility}
-use Rattle.facility.specs.Verdicts.{Verdict, GoesOn, RefusedBy, take_verdict, run_verdict, report_verdict, period_verdict}
+use Rattle.facility.specs.Verdicts.{Verdict, GoesOn, RefusedBy, Taking, NewSheet, SameSheet, NotTaken, take_verdict, run_verdict, report_verdict, period_verdict}
 use Rattle.door.specs.Sound.{sound}
 use Rattle.running.specs.Steps.{conditions_on, steps_of}
 
@@ -88,24 +88,15 @@ laid_by (RefusedAt number offset) = refused empty number offset
 unfoldable pub lay_of : List ℕ → Reply
 lay_of bytes = laid_by (read_road bytes)
 
--- a sheet taken is counted, and is in force from then on with no step made under it yet
+-- a sheet taken, new or the same, is counted, and is in force from then on with no step made under it yet
 unfoldable pub with_sheet : Facility → List ℕ → Facility
-with_sheet f period = record {
-  road = f.road;
-  period = period;
-  taken = f.taken + 1;
-  made = 0;
-  state = f.state;
-  tallies = f.tallies;
-  arrived = f.arrived;
-  left = f.left;
-  partsteps = f.partsteps;
-}
+with_sheet f period = record f { period = period; taken = f.taken + 1; made = 0 }
 
--- by the verdict: the sheet put in force, or the refusal
-abbrev pub taken_by : Facility → Rows → Reply
-taken_by f (ReadRow row used) = done used (with_sheet f (padded row))
-taken_by f (RefusedAt number offset) = refused f number offset
+-- by the verdict: the new sheet put in force; the one in force once more, with no byte used; or the refusal
+abbrev pub taken_by : Facility → Taking → Reply
+taken_by f (NewSheet row used) = done used (with_sheet f (padded row))
+taken_by f SameSheet = done 0 (with_sheet f f.period)
+taken_by f (NotTaken number offset) = refused f number offset
 
 -- Take a period sheet: 9, then its verdict
 unfoldable pub take_of : Facility → List ℕ → Reply

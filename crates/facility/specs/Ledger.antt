@@ -1,9 +1,9 @@
--- Document 01, "The list statement", and document 02, Q-4, the segments' totals: the ledger, worked out from the road and the calls' arguments
--- alone. It names no facility.
+-- Document 01, "The list statement", and document 02, Q-4, the segments' totals, and Q-5, the sheet in force once more: the ledger, worked out from
+-- the road and the calls' arguments alone. It names no facility.
 use Rattle.std.specs.Prelude.{ℕ, zero, suc, ◌+◌, ◌-◌, List, [], ◌∷◌, take}
-use Rattle.numbers.specs.Row.{Rows, ReadRow, RefusedAt}
+use Rattle.numbers.specs.Row.{Rows}
 use Rattle.sheets.specs.Read.{read_period, padded}
-use Rattle.facility.specs.Verdicts.{Verdict, GoesOn, RefusedBy, take_verdict, run_verdict, report_verdict}
+use Rattle.facility.specs.Verdicts.{Verdict, GoesOn, RefusedBy, Taking, NewSheet, SameSheet, NotTaken, take_verdict, run_verdict, report_verdict}
 use Rattle.segment.specs.declared.Cell.{Cell}
 use Rattle.segment.specs.declared.tally.Tally.{Tally}
 use Rattle.steps.specs.declared.State.{State}
@@ -109,21 +109,28 @@ abbrev pub conditions_by : Rules → Book → Conditions
 conditions_by rules b = rules.conditions b.road b.sheet
 
 -- what the table says of taking a sheet
-abbrev pub take_by : Rules → Book → (bytes : List ℕ) → Rows
+abbrev pub take_by : Rules → Book → (bytes : List ℕ) → Taking
 take_by rules b bytes = take_verdict (rules.read b.road) b.taken b.made bytes
 
 -- at first there is no sheet, and no step is made
 abbrev pub opened : List ℕ → Book
 opened road = record { road = road; sheet = None; taken = 0; made = 0; trail = [] }
 
--- Take a period sheet, by its verdict: the answer, and the book after it
-abbrev pub taken_as : Rows → Answer
-taken_as (ReadRow row used) = Taken used
-taken_as (RefusedAt number offset) = Refused number offset
+-- Take a period sheet, by its verdict: the answer. Of the same sheet once more no byte is used
+abbrev pub taken_as : Taking → Answer
+taken_as (NewSheet row used) = Taken used
+taken_as SameSheet = Taken 0
+taken_as (NotTaken number offset) = Refused number offset
 
-abbrev pub with_row : Book → Rows → Book
-with_row b (ReadRow row used) = record { road = b.road; sheet = Under (padded row); taken = b.taken + 1; made = 0; trail = b.trail }
-with_row b (RefusedAt number offset) = b
+-- a sheet taken, new or the same, is counted, and is in force from then on with no step made under it yet
+abbrev pub with_period : Book → SheetInForce → Book
+with_period b sheet = record b { sheet = sheet; taken = b.taken + 1; made = 0 }
+
+-- by the verdict of a taking: the book after it
+abbrev pub with_taking : Book → Taking → Book
+with_taking b (NewSheet row used) = with_period b (Under (padded row))
+with_taking b SameSheet = with_period b b.sheet
+with_taking b (NotTaken number offset) = b
 
 -- the figures of a cell
 abbrev pub figures_of : Cell → Figures
@@ -135,8 +142,7 @@ report_in cell here tally = Reported (figures_of cell) (level_of cell.n here.len
 
 -- the book with k steps more
 abbrev pub with_steps : Rules → ℕ → Book → Book
-with_steps rules k b =
-    record { road = b.road; sheet = b.sheet; taken = b.taken; made = b.made + k; trail = more_steps (conditions_by rules b) k b.trail }
+with_steps rules k b = record b { made = b.made + k; trail = more_steps (conditions_by rules b) k b.trail }
 
 -- Run k steps, by its verdict: the answer, and the book after it
 abbrev pub ran_as : Verdict → Answer
@@ -163,7 +169,7 @@ answer_by rules b Totals =
 
 -- the book after a call: "a call that the tables refuse changes nothing, nor do a segment report and totals"
 abbrev pub after_by : Rules → Book → Call → Book
-after_by rules b (Take bytes) = with_row b (take_by rules b bytes)
+after_by rules b (Take bytes) = with_taking b (take_by rules b bytes)
 after_by rules b (Run k) = with_run rules b k (run_verdict b.taken b.made k)
 after_by rules b (Report i) = b
 after_by rules b Totals = b
@@ -184,10 +190,12 @@ abbrev pub book_after : Book → List Call → Book
 book_after b [] = b
 book_after b (c ∷ cs) = book_after (after b c) cs
 
--- the bytes of the period in force, as the last accepted taking of the list used them; `before` are those of a period taken before the list
-abbrev pub used_by : Rows → (bytes before : List ℕ) → List ℕ
-used_by (ReadRow row used) bytes before = take used bytes
-used_by (RefusedAt number offset) bytes before = before
+-- the bytes of the sheet in force: those that the last accepted taking of a new sheet used; the same sheet once more leaves them as they are. `before`
+-- are those of a sheet taken before the list
+abbrev pub used_by : Taking → (bytes before : List ℕ) → List ℕ
+used_by (NewSheet row used) bytes before = take used bytes
+used_by SameSheet bytes before = before
+used_by (NotTaken number offset) bytes before = before
 
 abbrev pub period_bytes : Book → (before : List ℕ) → List Call → List ℕ
 period_bytes b before [] = before

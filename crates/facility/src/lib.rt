@@ -9,9 +9,9 @@ ghost use Rattle.steps.specs.Step.{cell_in};
 ghost use Rattle.steps.specs.Tallies.{tally_in};
 ghost use Rattle.door.specs.Sound.{sound};
 ghost use Rattle.parts.specs.Good.{GoodRoad};
-ghost use Rattle.facility.specs.Calls.{fresh_on, lay_of, with_sheet, take_of, run_of, reported, level_at, report_of, totals_of, write_road_of, write_period_of};
+ghost use Rattle.facility.specs.Calls.{fresh_on, lay_of, with_sheet, taken_by, take_of, run_of, reported, level_at, report_of, totals_of, write_road_of, write_period_of};
 ghost use Rattle.facility.specs.Results.{replied, ran, report_told, sums_told, verdict};
-ghost use Rattle.facility.specs.Verdicts.{GoesOn, RefusedBy, unfinished, run_verdict, report_verdict, period_verdict};
+ghost use Rattle.facility.specs.Verdicts.{GoesOn, RefusedBy, unfinished, repeat_verdict, run_verdict, report_verdict, period_verdict};
 
 use door::Facility;
 use letters::Level;
@@ -114,7 +114,20 @@ fn is_unfinished(f: &Facility) -> bool
     (0 < f.taken) & (f.made < 60)
 }
 
-// Takes a period sheet.
+// Takes the sheet in force once more.
+#[tactic(auto, unfolding(crate::specs::Verdicts::repeat_verdict))]
+fn repeat_sheet(f: &mut Facility) -> Result<usize, Refused>
+    requires { f.old.taken < 96 }
+    ensures { replied result f.new ≡ taken_by f.old (repeat_verdict f.old.taken) }
+{
+    if f.taken == 0 {
+        return Err(Refusal::NoPeriod.into());
+    }
+    put_in_force(f, f.period);
+    Ok(0)
+}
+
+// Takes a period sheet; zero bytes are the sheet in force once more.
 #[tactic(auto, using(numbers::proofs::Rows::filled_read, numbers::proofs::Rows::filled_refused), unfolding(crate::specs::Calls::take_of, crate::specs::Verdicts::take_verdict))]
 pub fn take(f: &mut Facility, bytes: &[u8]) -> Result<usize, Refused>
     ensures { replied result f.new ≡ take_of f.old bytes.now }
@@ -125,6 +138,9 @@ pub fn take(f: &mut Facility, bytes: &[u8]) -> Result<usize, Refused>
     }
     if 96 <= f.taken {
         return Err(Refusal::TooManyPeriods.into());
+    }
+    if bytes.is_empty() {
+        return repeat_sheet(f);
     }
     let sheet = sheets::read_period(bytes, &f.road)?;
     put_in_force(f, sheet.numbers);

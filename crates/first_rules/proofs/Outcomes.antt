@@ -5,13 +5,14 @@ use mathlib.Core.Path.{◌≡◌, refl, sym, ap, ◌∙◌}
 use mathlib.Core.List.{List, [], ◌∷◌}
 use native.Mathlib.Nat.{add-zero}
 use native.Mathlib.Omega.{arith}
-use lib.ListN.{length, drop}
+use lib.ListN.{length, drop, length-drop}
 use lib.Dec.{ltb}
 use borrow.Author.Tests.{ltb-true, ltb-false}
 use Rattle.numbers.specs.Row.{Rows, ReadRow, RefusedAt}
 use Rattle.sheets.specs.Read.{read_road, padded}
-use Rattle.facility.specs.Ledger.{Book, Rules, opened, take_by, taken_as, with_row, with_steps, with_run}
-use Rattle.facility.specs.Verdicts.{unfinished}
+use Rattle.conditions.specs.Conditions.{Under}
+use Rattle.facility.specs.Ledger.{Book, Rules, opened, take_by, taken_as, with_period, with_taking, with_steps, with_run}
+use Rattle.facility.specs.Verdicts.{Taking, NewSheet, as_read, unfinished}
 use Rattle.facility.proofs.Verdicts.{take_full, take_reads}
 use Rattle.study.specs.Forecast.{Outcome, Ended, RefusedStudy, after_sheet, whole, whole_period, periods, on_road, outcome_by}
 use Rattle.study.proofs.Periods.{finished, goes_whole, sheet_by_lem, end_by}
@@ -20,7 +21,7 @@ use Rattle.convert.proofs.Sheets.{from_more, from_full, from_end}
 
 -- the book after a sheet's period
 abbrev pub after_period : Rules → Book → (row : List ℕ) → Book
-after_period rules b row = with_steps rules whole (with_row b (ReadRow row 0))
+after_period rules b row = with_steps rules whole (with_period b (Under (padded row)))
 
 abbrev pub ran_over : Rules → Book → List (List ℕ) → Book
 ran_over rules b [] = b
@@ -37,14 +38,14 @@ module _ (rules : Rules) (bytes : List ℕ) where
   ran_onto b row (RefusedSheet number offset) = refl
 
   -- a sheet that is taken has its period run whole
-  period_is : (b : Book) (s row : List ℕ) (used : ℕ) → take_by rules b s ≡ ReadRow row used → whole_period rules b s ≡ after_period rules b row
+  period_is : (b : Book) (s row : List ℕ) (used : ℕ) → take_by rules b s ≡ NewSheet row used → whole_period rules b s ≡ after_period rules b row
   period_is b s row used e =
-      ap (with_run rules (with_row b (take_by rules b s)) whole) (goes_whole rules b s used (ap taken_as e))
-      ∙ ap (λ (r : Rows). with_steps rules whole (with_row b r)) e
+      ap (with_run rules (with_taking b (take_by rules b s)) whole) (goes_whole rules b s used (ap taken_as e))
+      ∙ ap (λ (t : Taking). with_steps rules whole (with_taking b t)) e
 
   sheet_step : (b : Book) (at : ℕ) (on : ℕ → Outcome) (rest : ℕ → Sheets) (r : Rows)
       → ((row : List ℕ) (used : ℕ) → r ≡ ReadRow row used → on (at + used) ≡ came_to rules (after_period rules b row) (rest (at + used)))
-      → after_sheet (taken_as r) at on ≡ came_to rules b (and_sheets at r rest)
+      → after_sheet (taken_as (as_read r)) at on ≡ came_to rules b (and_sheets at r rest)
   unfolding and_sheets
   sheet_step b at on rest (ReadRow row used) h = h row used refl ∙ ran_onto b row (rest (at + used))
   sheet_step b at on rest (RefusedAt number offset) h = refl
@@ -57,7 +58,7 @@ module _ (rules : Rules) (bytes : List ℕ) where
       → periods rules 1 b bytes at ≡ came_to rules b (sheets_from (rules.read b.road) 0 bytes at)
   periods_full b at idle full h =
       sheet_by_lem rules 1 b bytes at (omega arith) h
-      ∙ ap (λ (r : Rows). after_sheet (taken_as r) at (periods rules 0 (whole_period rules b (drop at bytes)) bytes)) (take_full (rules.read b.road) b.taken b.made (drop at bytes) idle (omega arith))
+      ∙ ap (λ (t : Taking). after_sheet (taken_as t) at (periods rules 0 (whole_period rules b (drop at bytes)) bytes)) (take_full (rules.read b.road) b.taken b.made (drop at bytes) idle (omega arith))
       ∙ ap (RefusedStudy 13) (add-zero at)
       ∙ sym (ap (came_to rules b) (from_full (rules.read b.road) bytes at h))
 
@@ -70,15 +71,16 @@ module _ (rules : Rules) (bytes : List ℕ) where
       let s = drop at bytes in
       let next = whole_period rules b s in
       let less : suc (suc left) - 1 ≡ suc left = omega arith in
-      let on : (row : List ℕ) (used : ℕ) → take_by rules b s ≡ ReadRow row used
+      let taking : take_by rules b s ≡ as_read (read s) = take_reads read b.taken b.made s idle (omega arith) (omega (arith, h, length-drop at bytes)) in
+      let on : (row : List ℕ) (used : ℕ) → read s ≡ ReadRow row used
       → periods rules (suc (suc left) - 1) next bytes (at + used) ≡ came_to rules (after_period rules b row) (sheets_from read left bytes (at + used)) =
       λ row used e.
       ap (λ (m : ℕ). periods rules m next bytes (at + used)) less
-      ∙ ap (λ (c : Book). periods rules (suc left) c bytes (at + used)) (period_is b s row used e)
+      ∙ ap (λ (c : Book). periods rules (suc left) c bytes (at + used)) (period_is b s row used (taking ∙ ap as_read e))
       ∙ ih (after_period rules b row) (at + used) (finished (b.taken + 1) (0 + whole) (omega arith)) (omega arith) in
       sheet_by_lem rules (suc (suc left)) b bytes at (omega arith) h
-      ∙ sheet_step b at (periods rules (suc (suc left) - 1) next bytes) (sheets_from read left bytes) (take_by rules b s) on
-      ∙ ap (λ (r : Rows). came_to rules b (and_sheets at r (sheets_from read left bytes))) (take_reads read b.taken b.made s idle (omega arith))
+      ∙ ap (λ (t : Taking). after_sheet (taken_as t) at (periods rules (suc (suc left) - 1) next bytes)) taking
+      ∙ sheet_step b at (periods rules (suc (suc left) - 1) next bytes) (sheets_from read left bytes) (read s) on
       ∙ sym (ap (came_to rules b) (from_more read bytes left at h))
 
   by_test : (left : ℕ) (b : Book) (at : ℕ) → unfinished b.taken b.made ≡ false → b.taken + left ≡ 96

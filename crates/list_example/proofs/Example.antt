@@ -1,5 +1,5 @@
--- The list statement at four lists of calls on the worked study's road, the last with an off-ramp, refused calls among them: whatever the calls of the
--- facility give, these are the answers.
+-- The list statement at five lists of calls on the worked study's road, one of them with an off-ramp, refused calls among them: whatever the calls of
+-- the facility give, these are the answers.
 use mathlib.Core.Path.{◌≡◌, refl, ◌∙◌}
 use mathlib.Core.List.{List, [], ◌∷◌}
 use Prim.Native.Nat.{ℕ}
@@ -17,8 +17,8 @@ use Rattle.segment.specs.Place.{split_of, wish_of, most_of, onward_of, queued_of
 use Rattle.steps.specs.Step.{main_wish_at, queued_at, main_flow_at, replaced, stepped, sum_to, arrived_of, left_of, stored_of}
 use Rattle.letters.specs.Level.{graded, holds_at_most, level_by, level_of}
 use Rattle.door.specs.declared.Facility.{Facility}
-use Rattle.facility.specs.Ledger.{Call, Take, Run, Report, Totals, Answer, Refused, Taken, Ran, Reported, Summed, arrived_in, left_in, partsteps_in, off_in, out_in, opened, answers}
-use Rattle.facility.specs.Verdicts.{unfinished, take_verdict, run_verdict, report_verdict}
+use Rattle.facility.specs.Ledger.{Call, Take, Run, Report, Totals, Answer, Refused, Taken, Ran, Reported, Summed, arrived_in, left_in, partsteps_in, off_in, out_in, opened, answers, period_bytes}
+use Rattle.facility.specs.Verdicts.{unfinished, repeat_verdict, take_verdict, run_verdict, report_verdict}
 use Rattle.facility.proofs.Played.{Played}
 use Rattle.facility.specs.Statement.{AcceptedRoad, road_of}
 use Rattle.facility.proofs.Lists.{theorem}
@@ -122,13 +122,58 @@ said_carried =
     ∷ Reported (record { n = 3; q = 0; main = 3; ramp = 0; off = 1; out = 3 }) A (record { off = 59; out = 180 })
     ∷ []
 
+-- zero bytes, document 02, Q-5: none before any sheet (10), nor while a period is unfinished (12); then the sheet in force once more, with its one open
+-- lane, after a refused sheet too and a second time in a row: a period of 60 steps, in each of which 4,800 parts arrive. 00 is a sheet (14). The sheet in
+-- force then has the bytes that its one taking used
+abbrev repeated : List Call
+repeated =
+    Take []
+    ∷ Take (sheet 1)
+    ∷ Run 1
+    ∷ Take []
+    ∷ Run 59
+    ∷ Take (sheet 3)
+    ∷ Take []
+    ∷ Report 1
+    ∷ Run 2
+    ∷ Run 58
+    ∷ Run 1
+    ∷ Take (0x00 ∷ [])
+    ∷ Take []
+    ∷ Run 1
+    ∷ Report 1
+    ∷ Totals
+    ∷ []
+
+abbrev said_repeated : List Answer
+said_repeated =
+    Refused 10 0
+    ∷ Taken 8
+    ∷ Ran
+    ∷ Refused 12 0
+    ∷ Ran
+    ∷ Refused 4 7
+    ∷ Taken 0
+    ∷ Reported (record { n = 2046; q = 0; main = 2046; ramp = 0; off = 0; out = 2046 }) D (record { off = 0; out = 120868 })
+    ∷ Ran
+    ∷ Ran
+    ∷ Refused 11 0
+    ∷ Refused 14 0
+    ∷ Taken 0
+    ∷ Ran
+    ∷ Reported (record { n = 2046; q = 0; main = 2046; ramp = 0; off = 0; out = 2046 }) D (record { off = 0; out = 245674 })
+    ∷ Summed 580800 245674 335126 20556360
+    ∷ []
+
 computed :
     (answers (opened (road_of road)) calls ≡ said)
     × (answers (opened (road_of road)) filled ≡ said_filled)
     × (answers (opened (road_of road)) lettered ≡ said_lettered)
     × (answers (opened (road_of off_road)) carried ≡ said_carried)
-unfolding read_number groups last more placed in_range read_field road_range period_range range_of count_of road_globals segment_of period_globals entry_of onto and_then fields read_row road_from read_road read_period sheet_reading largest rounded_up parts_at wish_to_leave off remainder_after through most_leaving ramp_wish entrance supply ramp_flow main_flow leaving values_to open_capacity lowered_by in_force demand_under outlet_under entry_under conditions_of split_of wish_of most_of onward_of queued_of ramp_wish_of entrance_of supply_of inflow_of leaving_of moved_of main_wish_at queued_at main_flow_at replaced stepped sum_to arrived_of left_of stored_of graded holds_at_most level_by level_of unfinished take_verdict run_verdict report_verdict arrived_in left_in partsteps_in off_in out_in
-computed = (refl, refl, refl, refl)
+    × (answers (opened (road_of road)) repeated ≡ said_repeated)
+    × (period_bytes (opened (road_of road)) [] repeated ≡ sheet 1)
+unfolding read_number groups last more placed in_range read_field road_range period_range range_of count_of road_globals segment_of period_globals entry_of onto and_then fields read_row road_from read_road read_period sheet_reading largest rounded_up parts_at wish_to_leave off remainder_after through most_leaving ramp_wish entrance supply ramp_flow main_flow leaving values_to open_capacity lowered_by in_force demand_under outlet_under entry_under conditions_of split_of wish_of most_of onward_of queued_of ramp_wish_of entrance_of supply_of inflow_of leaving_of moved_of main_wish_at queued_at main_flow_at replaced stepped sum_to arrived_of left_of stored_of graded holds_at_most level_by level_of unfinished repeat_verdict take_verdict run_verdict report_verdict arrived_in left_in partsteps_in off_in out_in
+computed = (refl, refl, refl, refl, refl, refl)
 
 -- so these are the answers of the facility's calls
 pub example : (xs : List Answer) (g : Facility) → Played road calls xs g → xs ≡ said
@@ -142,6 +187,9 @@ example_lettered xs g p = (theorem p).answered ∙ computed.2
 
 pub example_carried : (xs : List Answer) (g : Facility) → Played off_road carried xs g → xs ≡ said_carried
 example_carried xs g p = (theorem p).answered ∙ computed.3
+
+pub example_repeated : (xs : List Answer) (g : Facility) → Played road repeated xs g → xs ≡ said_repeated
+example_repeated xs g p = (theorem p).answered ∙ computed.4
 
 -- and both roads are ones that laying accepts
 pub accepted : AcceptedRoad road × AcceptedRoad off_road

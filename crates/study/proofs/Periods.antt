@@ -5,7 +5,7 @@ use mathlib.Core.Path.{◌≡◌, refl, sym, ap, subst, ◌∙◌}
 use mathlib.Core.List.{List}
 use native.Mathlib.Omega.{arith}
 use lib.ListN.{length, drop, length-drop}
-use lib.Dec.{leb, ltb, eqb}
+use lib.Dec.{ltb, eqb}
 use borrow.Author.Tests.{lt-ltb, le-ltb, eq-eqb, ne_eqb, eqb-true}
 use Rattle.std.specs.Prelude.{if◌then◌else◌, Result, Ok, Err}
 use Rattle.refusals.specs.declared.Refusal.{Refusal}
@@ -21,9 +21,9 @@ use Rattle.door.specs.declared.Facility.{Facility}
 use Rattle.door.specs.Sound.{sound}
 use Rattle.facility.specs.Calls.{Reply, refused, done, taken_by, laid_by, lay_of, take_of, run_of}
 use Rattle.facility.specs.Results.{replied}
-use Rattle.facility.specs.Ledger.{Take, Run, Answer, Refused, Taken, Ran, Book, Rules, present, take_by, opened, taken_as, with_row, ran_as, with_run, answer_by, after_by, answer, after}
-use Rattle.facility.specs.Verdicts.{Verdict, GoesOn, unfinished, take_verdict, run_verdict}
-use Rattle.facility.proofs.Verdicts.{run_goes}
+use Rattle.facility.specs.Ledger.{Take, Run, Answer, Refused, Taken, Ran, Book, Rules, present, take_by, opened, taken_as, with_taking, ran_as, with_run, answer_by, after_by, answer, after}
+use Rattle.facility.specs.Verdicts.{Verdict, GoesOn, Taking, NewSheet, SameSheet, NotTaken, as_read, unfinished, run_verdict}
+use Rattle.facility.proofs.Verdicts.{take_cases, run_goes}
 use Rattle.facility.specs.View.{view}
 use Rattle.facility.specs.Answers.{take_says, run_says}
 use Rattle.facility.proofs.Trail.{KeptBook, kept_opened, kept_after}
@@ -38,15 +38,10 @@ use Rattle.study.proofs.Lines.{shows}
 ReplyWithin : ℕ → Reply → Type 0
 ReplyWithin m r = (r.used ≤ m) × (r.offset ≤ m)
 
-rows_within : (m : ℕ) (f : Facility) (r : Rows) → RowWithin m r → ReplyWithin m (taken_by f r)
+reading_within : (m : ℕ) (f : Facility) (r : Rows) → RowWithin m r → ReplyWithin m (taken_by f (as_read r))
 unfolding ReplyWithin
-rows_within m f (ReadRow row used) h = (h, omega arith)
-rows_within m f (RefusedAt number offset) h = (omega arith, h)
-
-verdict_within : (m : ℕ) (r : Rows) (x y : Bool) → RowWithin m r → RowWithin m (if x then RefusedAt 12 0 else if y then RefusedAt 13 0 else r)
-verdict_within m r true y h = omega arith
-verdict_within m r false true h = omega arith
-verdict_within m r false false h = h
+reading_within m f (ReadRow row used) h = (h, omega arith)
+reading_within m f (RefusedAt number offset) h = (omega arith, h)
 
 unless_within : (m : ℕ) (f : Facility) (t : Bool) (r : Reply) → ReplyWithin m r → ReplyWithin m (if t then r else refused f 9 0)
 unfolding ReplyWithin
@@ -54,11 +49,13 @@ unless_within m f true r h = h
 unless_within m f false r h = (omega arith, omega arith)
 
 take_within : (f : Facility) (bytes : List ℕ) → ReplyWithin (length bytes) (take_of f bytes)
-unfolding take_of take_verdict
+unfolding take_of ReplyWithin
 take_within f bytes =
     let m = length bytes in
-    let read = read_period f.road bytes in
-    unless_within m f (sound f) _ (rows_within m f _ (verdict_within m read (unfinished f.taken f.made) (leb 96 f.taken) (period_within f.road bytes)))
+    let none : (0 ≤ m) × (0 ≤ m) = (omega arith, omega arith) in
+    unless_within m f (sound f) _
+    (take_cases (read_period f.road) f.taken f.made bytes (λ t. ReplyWithin m (taken_by f t)) none none none (λ idle room some. none)
+    (λ idle room. reading_within m f _ (period_within f.road bytes)))
 
 -- a taking at a place of the bytes, by its places in them
 pub taken_end : (f : Facility) (bytes : List ℕ) (at used : ℕ) (next : Facility) → at ≤ length bytes → done used next ≡ take_of f (drop at bytes)
@@ -83,10 +80,11 @@ place_within f bytes at number offset next h e = omega (arith, (rw (← e) at (t
 Begun : Book → Book → Type 0
 Begun b next = (next.taken ≡ b.taken + 1) × (next.made ≡ 0)
 
-begun_row : (b : Book) (r : Rows) (used : ℕ) → taken_as r ≡ Taken used → Begun b (with_row b r)
+begun_by : (b : Book) (t : Taking) (used : ℕ) → taken_as t ≡ Taken used → Begun b (with_taking b t)
 unfolding Begun
-begun_row b (ReadRow row n) used e = (refl, refl)
-begun_row b (RefusedAt number offset) used e = absurd (let z : ◌≡◌ {A = ℕ} 0 1 = cc in omega arith)
+begun_by b (NewSheet row n) used e = (refl, refl)
+begun_by b SameSheet used e = (refl, refl)
+begun_by b (NotTaken number offset) used e = absurd (let z : ◌≡◌ {A = ℕ} 0 1 = cc in omega arith)
 
 and_false : (t : Bool) → (t && false) ≡ false
 and_false true = refl
@@ -98,7 +96,7 @@ finished taken made h = rw (le-ltb made 60 h) (and_false (ltb 0 taken))
 
 module _ (rules : Rules) (b : Book) (s : List ℕ) (used : ℕ) (e : answer_by rules b (Take s) ≡ Taken used) where
   begun : Begun b (after_by rules b (Take s))
-  begun = begun_row b (take_by rules b s) used e
+  begun = begun_by b (take_by rules b s) used e
 
   -- "runs every period whole": right after a sheet is taken, a run of the period's steps is never refused
   pub goes_whole : run_verdict (after_by rules b (Take s)).taken (after_by rules b (Take s)).made whole ≡ GoesOn
