@@ -122,9 +122,9 @@ said_carried =
     ∷ Reported (record { n = 3; q = 0; main = 3; ramp = 0; off = 1; out = 3 }) A (record { off = 59; out = 180 })
     ∷ []
 
--- zero bytes, document 02, Q-5: none before any sheet (10), nor while a period is unfinished (12); then the sheet in force once more, with its one open
--- lane, after a refused sheet too and a second time in a row: a period of 60 steps, in each of which 4,800 parts arrive. 00 is a sheet (14). The sheet in
--- force then has the bytes that its one taking used
+-- zero bytes, document 02, Q-5: refused before any sheet (10), and while a period is unfinished (12); else the sheet in force once more, with its one open
+-- lane, after a refused sheet too and a second time: a period of 60 steps, in each of which 4,800 parts arrive. 00 is a sheet, of another NS (14). At the
+-- list's end the sheet in force has the bytes that its one taking used
 abbrev repeated : List Call
 repeated =
     Take []
