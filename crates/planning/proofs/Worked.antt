@@ -9,10 +9,10 @@ use Rattle.numbers.specs.Field.{in_range, read_field}
 use Rattle.numbers.specs.Row.{fields, and_then, onto}
 use Rattle.numbers.specs.Filled.{filled}
 use Rattle.planning_sheet.specs.Listing.{first}
-use Rattle.letters.specs.declared.Level.TheVariants.{F}
+use Rattle.letters.specs.declared.Level.TheVariants.{B, F}
 use Rattle.letters.specs.Level.{graded}
 use Rattle.sections.specs.Table.{tabled, row_of, row75, row70, row65, row60, row55}
-use Rattle.sections.specs.Section.{queued, no_answer, work_of, judged_of, answer_of, capacity_of, carried_of, ratio_of, curve_of, under_of, over_of, travel_of, speed_of, density_of}
+use Rattle.sections.specs.Section.{slowed, queued, no_answer, work_of, judged_of, answer_of, capacity_of, carried_of, ratio_of, curve_of, printed_of, under_of, over_of, travel_of, speed_of, density_of}
 use Rattle.sections.proofs.Worked.{bits}
 use Rattle.planning_sheet.specs.Sheet.{section_field, allowed_at, held_to, field_at, sections_of, sections_from, sheet_from, read_sheet, section_of}
 use Rattle.demands.specs.Demand.{demand_of, all_within, demand_at, demands_of}
@@ -37,8 +37,28 @@ whole_plan : plan_of sheet (3935 ∷ 2587 ∷ [])
       letter = F;
       carryover = 8586 ∷ 10325 ∷ [];
     }
-unfolding of_bits of_int add sub mul div lt le read_number groups last more placed read_field in_range first tabled row_of row75 row70 row65 row60 row55 capacity_of carried_of ratio_of curve_of under_of over_of travel_of speed_of density_of work_of judged_of answer_of section_field allowed_at held_to field_at fields and_then onto sections_of sections_from filled sheet_from read_sheet section_of demand_of all_within demand_at demands_of answer_at answers_of carried_at carryover_of added_of totals_of facility_density graded letter_of accepted_plan plan_from plan_of
+unfolding of_bits of_int add sub mul div lt le read_number groups last more placed read_field in_range first tabled row_of row75 row70 row65 row60 row55 capacity_of carried_of ratio_of curve_of printed_of under_of over_of travel_of speed_of density_of work_of judged_of answer_of section_field allowed_at held_to field_at fields and_then onto sections_of sections_from filled sheet_from read_sheet section_of demand_of all_within demand_at demands_of answer_at answers_of carried_at carryover_of added_of totals_of facility_density graded letter_of accepted_plan plan_from plan_of
 whole_plan = refl
+
+-- two sections just above E, whose printed rate is below zero: slowed with a rate of zero, at their free-flow speed
+abbrev above_e : List ℕ
+above_e = 0x02 ∷ 0xa0 ∷ 0x29 ∷ 0x03 ∷ 0x4b ∷ 0xe8 ∷ 0x07 ∷ 0xd0 ∷ 0x14 ∷ 0x02 ∷ 0x46 ∷ 0xb6 ∷ 0x07 ∷ 0xe1 ∷ 0x18 ∷ 0x00 ∷ 0x00 ∷ 0x9c ∷ 0x06 ∷ []
+
+floored_plan : plan_of above_e (0 ∷ 0 ∷ [])
+    ≡ record {
+      refusal = 0;
+      offset = 0;
+      used = 19;
+      answers =
+          slowed (bits 0x0000000000000000) (bits 0x4052c00000000000) (bits 0x402c2b3c4d5e6f80)
+          ∷ slowed (bits 0x0000000000000000) (bits 0x4051800000000000) (bits 0x4030f33333333333)
+          ∷ replicate 62 no_answer;
+      density = bits 0x402d9a06d3a06d39;
+      letter = B;
+      carryover = 0 ∷ 0 ∷ [];
+    }
+unfolding of_bits of_int add sub mul div lt le read_number groups last more placed read_field in_range first tabled row_of row75 row70 row65 row60 row55 capacity_of carried_of ratio_of curve_of printed_of under_of over_of travel_of speed_of density_of work_of judged_of answer_of section_field allowed_at held_to field_at fields and_then onto sections_of sections_from filled sheet_from read_sheet section_of demand_of all_within demand_at demands_of answer_at answers_of carried_at carryover_of added_of totals_of facility_density graded letter_of accepted_plan plan_from plan_of
+floored_plan = refl
 
 -- an FFS that is none of the five, at its own offset
 no_row : plan_of (0x01 ∷ 0xa0 ∷ 0x29 ∷ 0x03 ∷ 0x47 ∷ 0xe8 ∷ 0x07 ∷ 0x01 ∷ 0x01 ∷ []) (0 ∷ []) ≡ refused_plan 4 4 (0 ∷ [])

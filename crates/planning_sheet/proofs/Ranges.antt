@@ -50,6 +50,9 @@ row_allowed n bytes at row used e =
 most : (low high v : ℕ) → between low high v ≡ true → v ≤ high
 most low high v e = grind (arith, nat_tests)
 
+least : (low high v : ℕ) → between low high v ≡ true → low ≤ v
+least low high v e = grind (arith, nat_tests)
+
 tabled_least : (v : ℕ) → tabled v ≡ true → 55 ≤ v
 unfolding tabled
 tabled_least v e = grind (arith, nat_tests)
@@ -78,8 +81,11 @@ module _ (n : ℕ) (row : List ℕ) (ok : Allowed n row) (i : ℕ) (h : i < n) w
       let length_in : between 300 26400 (get_or row (4 * i) 0) ≡ true = rw z at (of_section 0 (omega arith)) in
       record {
         short = most 300 26400 _ length_in;
+        wide = least 1 8 _ (of_section 1 (omega arith));
         narrow = most 1 8 _ (of_section 1 (omega arith));
+        row = of_section 2 (omega arith);
         fast = tabled_least _ (of_section 2 (omega arith));
+        least = least 100 1000 _ (of_section 3 (omega arith));
         share = most 100 1000 _ (of_section 3 (omega arith));
         enters = of_flow (4 * n + 2 * i) (omega arith) (omega arith);
         leaves = of_flow (4 * n + 2 * i + 1) (omega arith) (omega arith);

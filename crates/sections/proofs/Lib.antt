@@ -1,3 +1,10 @@
 pub mod Literals
 pub mod Rows
 pub mod Worked
+pub mod AboveE
+pub mod Signs
+pub mod Within
+pub mod Order
+pub mod FiveRows
+pub mod Floor
+pub mod FreeFlow

@@ -3,3 +3,4 @@ pub mod Table
 pub mod Section
 pub mod Numbers
 pub mod Good
+pub mod Claims

@@ -33,9 +33,13 @@ ratio_of d c = real d ⊘ real c
 unfoldable pub curve_of : Row → Float → Float
 curve_of r w = ((r.a ⊗ w ⊕ r.b) ⊗ w ⊕ r.c) ⊗ w ⊕ r.d
 
--- RU: the delay rate below capacity, in seconds a mile (25-47)
+-- the delay rate below capacity as it is printed, in seconds a mile (25-47)
+unfoldable pub printed_of : Row → Float → Float
+printed_of r p = if lt p r.e then real 0 else curve_of r (if lt (real 1) p then real 1 else p)
+
+-- RU: the same, but zero where that is below zero (document 02, Q-6)
 unfoldable pub under_of : Row → Float → Float
-under_of r p = if lt p r.e then real 0 else curve_of r (if lt (real 1) p then real 1 else p)
+under_of r p = if lt (printed_of r p) (real 0) then real 0 else printed_of r p
 
 -- RO: the delay rate above capacity, in seconds a mile (25-48)
 unfoldable pub over_of : ℕ → ℕ → ℕ → Float → Float

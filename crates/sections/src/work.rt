@@ -1,8 +1,8 @@
 // The formulas of a section under a demand, each a function of its own.
-#![tactic(auto, using(crate::proofs::Literals::literals), unfolding(crate::specs::Section::ratio_of, crate::specs::Section::curve_of, crate::specs::Section::under_of, crate::specs::Section::over_of, crate::specs::Section::travel_of, crate::specs::Section::speed_of, crate::specs::Section::density_of, crate::specs::Section::work_of, crate::specs::Section::judged_of))]
+#![tactic(auto, using(crate::proofs::Literals::literals), unfolding(crate::specs::Section::ratio_of, crate::specs::Section::curve_of, crate::specs::Section::printed_of, crate::specs::Section::under_of, crate::specs::Section::over_of, crate::specs::Section::travel_of, crate::specs::Section::speed_of, crate::specs::Section::density_of, crate::specs::Section::work_of, crate::specs::Section::judged_of))]
 
 ghost use Rattle.std.specs.Prelude.{◌≡◌};
-ghost use Rattle.sections.specs.Section.{ratio_of, curve_of, under_of, over_of, travel_of, speed_of, density_of, work_of, outcome, judged_of};
+ghost use Rattle.sections.specs.Section.{ratio_of, curve_of, printed_of, under_of, over_of, travel_of, speed_of, density_of, work_of, outcome, judged_of};
 ghost use Rattle.sections.specs.Numbers.{numbers_of};
 
 use crate::answer::Answer;
@@ -21,9 +21,9 @@ fn curve(row: Row, w: f64) -> f64
     ((row.a * w + row.b) * w + row.c) * w + row.d
 }
 
-// The delay rate below capacity, in seconds a mile.
-fn under(row: Row, ratio: f64) -> f64
-    ensures { result ≡ under_of row ratio }
+// The delay rate below capacity as it is printed, in seconds a mile.
+fn printed(row: Row, ratio: f64) -> f64
+    ensures { result ≡ printed_of row ratio }
 {
     if ratio < row.e {
         return 0.0;
@@ -33,6 +33,17 @@ fn under(row: Row, ratio: f64) -> f64
         return curve(row, 1.0);
     }
     curve(row, ratio)
+}
+
+// The delay rate below capacity: zero where the printed one is below zero.
+fn under(row: Row, ratio: f64) -> f64
+    ensures { result ≡ under_of row ratio }
+{
+    let printed = printed(row, ratio);
+    if printed < 0.0 {
+        return 0.0;
+    }
+    printed
 }
 
 // The delay rate above capacity, in seconds a mile.

@@ -1,0 +1,13 @@
+-- Document 02, Q-6, "Faster than free flow": the claim on every sheet and carryover.
+use Rattle.std.specs.Prelude.{ℕ, ◌≡◌, ◌<◌, List, length, get_or}
+use Rattle.sections.specs.Section.{SectionNumbers, no_answer}
+use Rattle.sections.specs.Claims.{NoFaster}
+use Rattle.planning_sheet.specs.Sheet.{ReadSections, read_sheet, section_at}
+use Rattle.planning.specs.Plan.{plan_of}
+
+-- THE CLAIM: where a plan isn't refused, each section of the sheet has its answer in it, with no rate RU below zero and, unless the section is
+-- queued, no speed above its free-flow speed
+abbrev pub NoneFaster : List ℕ → List ℕ → Type 0
+NoneFaster bytes carryover =
+    (sections : List SectionNumbers) (used : ℕ) → read_sheet bytes ≡ ReadSections sections used → (plan_of bytes carryover).refusal ≡ 0
+    → (i : ℕ) → i < length sections → NoFaster (section_at sections i) (get_or (plan_of bytes carryover).answers i no_answer)
