@@ -11,7 +11,7 @@ fn main() {
         if !library.exists() {
             println!("cargo::error=the engine's library target/staticlib/lib{name}.a is missing");
             println!(
-                "cargo::error=make it first: run `./build study_c convert_c timing calls` in the repository's root"
+                "cargo::error=make it first: run `./build study_c convert_c timing calls planning_check` in the repository's root"
             );
         }
         println!("cargo::rustc-link-lib=static={name}");

@@ -162,7 +162,7 @@ pub fn state_and_flows(report: &Report) -> String {
 pub fn told(answer: &Result<Answer, Refusal>) -> String {
     match answer {
         Ok(answer) => answer.to_string(),
-        Err(Refusal { number, offset }) => format!("refused {number} {offset}"),
+        Err(refusal) => refusal.to_string(),
     }
 }
 
@@ -178,7 +178,8 @@ pub fn bytes(text: &str) -> Result<Vec<u8>, String> {
     bytes.ok_or(format!("`{text}` is not bytes in hexadecimal"))
 }
 
-fn hex(bytes: &[u8]) -> String {
+/// The hexadecimal digits of bytes, `-` for none.
+pub fn hex(bytes: &[u8]) -> String {
     match bytes {
         [] => "-".into(),
         _ => bytes.iter().map(|byte| format!("{byte:02x}")).collect(),

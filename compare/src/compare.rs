@@ -2,6 +2,8 @@
 
 pub mod conversions;
 pub mod lists;
+pub mod plans;
+mod program;
 
 use crate::model::facility::Facility;
 use crate::model::sheets::Refusal;

@@ -1,4 +1,5 @@
-//! Checks against files: studies with their listings, traces of steps, lists of calls with their answers, and conversions.
+//! Checks against files: studies with their listings, traces of steps, lists of calls with their answers, conversions, and planning
+//! sheets.
 //!
 //! NAME.study and NAME.listing are a study's bytes and what `forecast` prints. NAME.trace has steps of that study: a line `period`
 //! with a sheet's numbers, then the state, the flows and the remainders after each of the first steps under it; the next sheet goes
@@ -6,7 +7,8 @@
 //! A .txt file is a list of calls on one road, a line each, `call arguments -> answer`, where a report ends with its totals; or of
 //! conversions, `to-second STUDY room BYTES -> ok CONVERTED` or `-> refused NUMBER PLACE`, and `to-first` as well.
 //!
-//! Files of a folder named `first` are of the first layout and by the first rules; their names stand by themselves.
+//! Files of a folder named `first` are of the first layout and by the first rules; their names stand by themselves. So do those of a
+//! folder named `planning`, whose .txt files are planning sheets, as in the module of plans.
 
 use crate::calls::{bytes, state_and_flows, told, Answer, Player};
 use crate::compare::{self, conversions};
@@ -14,6 +16,7 @@ use crate::model::convert::Way;
 use crate::model::facility::{Facility, Totals};
 use crate::model::sheets::{period_numbers, read_period, Entry, Layout};
 use crate::model::{self, first};
+use crate::plans::Planner;
 use std::collections::BTreeMap;
 use std::fmt::Write;
 use std::fs;
@@ -33,23 +36,30 @@ struct Counts {
     traces: usize,
     lists: usize,
     conversions: usize,
+    planning_sheets: usize,
 }
 
 /// Checks all files of the folders; says how many there were, or the first that differs.
 pub fn check(folders: &[PathBuf]) -> Result<String, String> {
-    let (mut first, mut second) = (Files::new(), Files::new());
+    let (mut first, mut second, mut planning) = (Files::new(), Files::new(), Files::new());
     for folder in folders {
-        let files = if folder.ends_with("first") { &mut first } else { &mut second };
+        let files = match folder {
+            _ if folder.ends_with("first") => &mut first,
+            _ if folder.ends_with("planning") => &mut planning,
+            _ => &mut second,
+        };
         gather(folder, files).map_err(|error| format!("{}: {error}", folder.display()))?;
     }
     let mut counts = Counts::default();
     check_files::<Entry>(&second, listing, &mut counts)?;
     check_files::<first::Entry>(&first, first_listing, &mut counts).map_err(|what| format!("first/{what}"))?;
-    let Counts { listings, traces, lists, conversions } = counts;
-    match listings + traces + lists + conversions {
-        0 => Err("no listing, trace, list of calls or conversion in the folders".into()),
+    check_planning(&planning, &mut counts).map_err(|what| format!("planning/{what}"))?;
+    let Counts { listings, traces, lists, conversions, planning_sheets } = counts;
+    match listings + traces + lists + conversions + planning_sheets {
+        0 => Err("no listing, trace, list of calls, conversion or planning sheet in the folders".into()),
         _ => Ok(format!(
-            "{listings} listings, {traces} traces of steps, {lists} lists of calls and {conversions} conversions equal"
+            "{listings} listings, {traces} traces of steps, {lists} lists of calls, {conversions} conversions and \
+             {planning_sheets} planning sheets equal"
         )),
     }
 }
@@ -80,6 +90,18 @@ fn check_files<E: Layout>(
             same_lines(&text, &answers::<E>(&text).map_err(differs)?).map_err(differs)?;
             counts.lists += 1;
         }
+    }
+    Ok(())
+}
+
+/// Checks files of planning sheets.
+fn check_planning(files: &Files, counts: &mut Counts) -> Result<(), String> {
+    for (name, bytes) in files.iter().filter(|(name, _)| name.ends_with(".txt")) {
+        let text = String::from_utf8_lossy(bytes);
+        let differs = |what| format!("{name}: {what}");
+        let answers = planned(&text).map_err(differs)?;
+        same_lines(&text, &answers.concat()).map_err(differs)?;
+        counts.planning_sheets += answers.len();
     }
     Ok(())
 }
@@ -185,6 +207,13 @@ fn converted(list: &str) -> Result<String, String> {
         let _ = writeln!(text, "{call} -> {}", told(&answer));
     }
     Ok(text)
+}
+
+/// The planning sheets once more, each with the model's answer. Lines of sections begin with a space.
+fn planned(sheets: &str) -> Result<Vec<String>, String> {
+    let mut planner = Planner::new();
+    let records = sheets.lines().filter(|line| !line.starts_with(' '));
+    records.map(|line| Ok(planner.play(&call_of(line)?.parse()?).1)).collect()
 }
 
 #[cfg(test)]

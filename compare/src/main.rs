@@ -1,5 +1,5 @@
-//! Compares the forecast engine with an independent model of documents 01 and 02 (Q-1 to Q-5), and times it against two versions in
-//! Rust.
+//! Compares the forecast engine and its planning sheet with an independent model of documents 01 and 02 (Q-1 to Q-6), and times it
+//! against two versions in Rust.
 
 mod bench;
 mod calls;
@@ -9,6 +9,7 @@ mod fixtures;
 mod idiomatic;
 mod model;
 mod outcome;
+mod plans;
 mod random;
 mod tuned;
 
@@ -19,11 +20,13 @@ const SEED: u64 = 1;
 const COUNT: u64 = 300_000;
 
 const USAGE: &str = "arguments:
-  [SEED [COUNT]]        compare random studies, then conversions of as many of either layout, then as many answers to lists of calls
-  lists [SEED [COUNT]]  compare answers to random lists of calls alone
-  check [FOLDER..]      check studies and their listings (../studies, ../studies/first), traces, lists of calls, conversions;
-                        what is in a folder named `first` is of the first layout
-  bench                 time the engine against two versions in Rust";
+  [SEED [COUNT]]         compare random studies, then conversions of as many of either layout, then as many answers to lists of
+                         calls, then as many planning sheets
+  lists [SEED [COUNT]]   compare answers to random lists of calls alone
+  sheets [SEED [COUNT]]  compare random planning sheets alone
+  check [FOLDER..]       check studies and their listings (../studies, ../studies/first), traces, lists of calls, conversions;
+                         what is in a folder named `first` is of the first layout, in one named `planning` planning sheets
+  bench                  time the engine against two versions in Rust";
 
 fn main() -> ExitCode {
     let arguments: Vec<String> = std::env::args().skip(1).collect();
@@ -33,6 +36,7 @@ fn main() -> ExitCode {
         ["bench"] => bench::run(),
         ["check", ref folders @ ..] => check(folders),
         ["lists", ref numbers @ ..] => by_numbers(numbers, compare::lists::run),
+        ["sheets", ref numbers @ ..] => by_numbers(numbers, compare::plans::run),
         ref numbers => by_numbers(numbers, compare),
     };
     ExitCode::from(u8::from(!well))
@@ -52,12 +56,15 @@ fn by_numbers(words: &[&str], compare: fn(u64, u64) -> bool) -> bool {
     }
 }
 
-/// Compares the forecasts of so many studies, then the conversions of as many of either layout, then as many answers to calls.
+/// Compares the forecasts of so many studies, then the conversions of as many of either layout, then as many answers to calls, then
+/// as many planning sheets.
 fn compare(seed: u64, count: u64) -> bool {
-    compare::lists::program_is_made()
+    compare::lists::PROGRAM.is_made()
+        && compare::plans::PROGRAM.is_made()
         && compare::run(seed, count)
         && compare::conversions::run(seed, count)
         && compare::lists::run(seed, count)
+        && compare::plans::run(seed, count)
 }
 
 /// Checks the files of the folders, by default the repository's studies.

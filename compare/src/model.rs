@@ -1,10 +1,12 @@
 //! A model of documents 01 and 02 (Q-1, closed lanes; Q-2, conversion; Q-3, the split's remainder; Q-4, the off-ramp's total; Q-5,
-//! a sheet repeated by no bytes), written from the documents alone and for reading, not for speed.
+//! a sheet repeated by no bytes; Q-6, no section faster than free flow), written from the documents alone and for reading, not for
+//! speed.
 
 pub mod convert;
 pub mod facility;
 pub mod first;
 pub mod numbers;
+pub mod planning;
 pub mod sheets;
 pub mod step;
 

@@ -1,6 +1,7 @@
 //! Random studies of either layout: valid ones of every size, and ones damaged in every way that a refusal speaks of.
 
 pub mod calls;
+pub mod plans;
 
 use crate::model::numbers;
 
@@ -444,6 +445,20 @@ fn with_tail(fields: &mut Fields) -> Vec<u8> {
     }
     bytes.extend(noise(&mut fields.random));
     bytes
+}
+
+/// A sheet's bytes, mostly as they are, at times with others behind them or damaged.
+fn mostly_sound(random: &mut Random, mut sheet: Fields) -> Vec<u8> {
+    match random.within(1, 100) {
+        1..=72 => sheet.bytes(),
+        73..=80 => with_tail(&mut sheet),
+        81..=85 => out_of_range(&mut sheet),
+        86..=89 => bad_form(&mut sheet),
+        90..=92 => truncated(&mut sheet),
+        93..=96 => damaged(&mut sheet),
+        97..=98 => wrong_ns(&mut sheet),
+        _ => noise(&mut sheet.random),
+    }
 }
 
 fn noise(random: &mut Random) -> Vec<u8> {

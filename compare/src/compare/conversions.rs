@@ -109,7 +109,7 @@ pub fn alike(way: Way, study: &[u8], room: usize) -> Result<Result<Vec<u8>, Refu
     }
     let told = |converted: &Result<Vec<u8>, Refusal>| match converted {
         Ok(bytes) => super::hex(bytes),
-        Err(Refusal { number, offset }) => format!("refused {number} {offset}"),
+        Err(refusal) => refusal.to_string(),
     };
     let (expected, given) = (told(&expected), told(&given));
     Err(format!("{way} with room for {room} bytes should give\n{expected}\nand the engine gives\n{given}"))

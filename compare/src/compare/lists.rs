@@ -1,18 +1,15 @@
 //! The comparison of lists of calls: random lists on random roads, each call answered by the program `calls` and by the model.
 
-use super::{print_refused, Progress};
+use super::print_refused;
+use super::program::Program;
 use crate::calls::{told, Answer, Call, Player};
 use crate::model::facility::{Facility, MOST_PERIODS};
 use crate::model::sheets::Refusal;
 use crate::random::calls::List;
 use crate::random::Random;
 use std::collections::BTreeMap;
-use std::io::Write;
-use std::path::Path;
-use std::process::{Command, Stdio};
-use std::thread;
 
-const PROGRAM: &str = concat!(env!("CARGO_MANIFEST_DIR"), "/../target/bin/calls");
+pub const PROGRAM: Program = Program("calls");
 
 /// So many calls or a few more are played by one process, in whole lists.
 const CALLS_OF_A_PROCESS: u64 = 4_000;
@@ -100,47 +97,19 @@ impl Tally {
     }
 }
 
-/// Whether the program is there; says so where it is missing.
-pub fn program_is_made() -> bool {
-    let made = Path::new(PROGRAM).exists();
-    if !made {
-        println!("the program target/bin/calls is missing");
-        println!("make it first: run `./build calls` in the repository's root");
-    }
-    made
-}
-
 /// Compares `count` answers; true where all were equal.
 pub fn run(seed: u64, count: u64) -> bool {
-    if !program_is_made() {
-        return false;
-    }
-    println!("comparing {count} answers to random lists of calls, seed {seed}");
-    match compared(seed, count) {
-        Ok(tally) => {
-            tally.print();
-            println!("all {count} answers equal, line by line");
-            true
-        }
-        Err(difference) => {
-            println!("{difference}");
-            false
-        }
-    }
-}
-
-fn compared(seed: u64, count: u64) -> Result<Tally, String> {
     let mut tally = Tally::default();
-    let mut seeds = Random::new(seed);
-    let mut progress = Progress::new();
-    let mut answered = 0;
-    while answered < count {
-        let lists = played(&mut seeds, count - answered, &mut tally);
+    let equal = PROGRAM.compare(seed, count, "answers to random lists of calls", |seeds, most| {
+        let lists = played(seeds, most, &mut tally);
         same(&lists)?;
-        answered += calls_of(&lists);
-        progress.tell(answered, "answers");
+        Ok(calls_of(&lists))
+    });
+    if equal {
+        tally.print();
+        println!("all {count} answers equal, line by line");
     }
-    Ok(tally)
+    equal
 }
 
 fn calls_of(lists: &[Played]) -> u64 {
@@ -173,7 +142,7 @@ fn same(lists: &[Played]) -> Result<(), String> {
     let played = lists.iter().flatten();
     let (calls, expected): (Vec<String>, Vec<String>) =
         played.map(|(call, answer)| (format!("{call}\n"), format!("{call} -> {answer}\n"))).unzip();
-    let printed = printed(&calls.concat()).map_err(|error| format!("the program calls cannot be run: {error}"))?;
+    let printed = PROGRAM.printed(&calls.concat())?;
     if printed == expected.concat() {
         return Ok(());
     }
@@ -196,23 +165,6 @@ fn difference(lists: &[Played], printed: &str) -> String {
         }
     }
     "the answers are equal, and what the program prints after the last one differs".into()
-}
-
-/// What the program prints for lines of calls, and how it ended where it failed. The lines are written while it is read, so that neither
-/// pipe fills up.
-fn printed(lines: &str) -> std::io::Result<String> {
-    let mut process = Command::new(PROGRAM).stdin(Stdio::piped()).stdout(Stdio::piped()).spawn()?;
-    let mut input = process.stdin.take().expect("a pipe was asked for");
-    let output = thread::scope(|scope| {
-        // a program that ends too early answers too few of them
-        scope.spawn(move || input.write_all(lines.as_bytes()));
-        process.wait_with_output()
-    })?;
-    let mut printed = String::from_utf8_lossy(&output.stdout).into_owned();
-    if !output.status.success() {
-        printed += &output.status.to_string();
-    }
-    Ok(printed)
 }
 
 #[cfg(test)]

@@ -1,6 +1,7 @@
 //! Road and period sheets: their fields in order, each with its range.
 
 use super::numbers;
+use std::fmt::{Display, Formatter};
 use std::ops::RangeInclusive;
 
 /// A refusal's number, and the offset of the field's first byte (0 for refusals that have none).
@@ -19,6 +20,12 @@ impl Refusal {
     /// The same refusal, its offset counted from the start of a file in which the sheet begins at `start`.
     pub fn in_file(self, start: usize) -> Refusal {
         Refusal { offset: start + self.offset, ..self }
+    }
+}
+
+impl Display for Refusal {
+    fn fmt(&self, f: &mut Formatter) -> std::fmt::Result {
+        write!(f, "refused {} {}", self.number, self.offset)
     }
 }
 
@@ -119,27 +126,39 @@ pub struct Fields<'a> {
     used: usize,
 }
 
-impl Fields<'_> {
+impl<'a> Fields<'a> {
+    pub fn of(bytes: &'a [u8]) -> Fields<'a> {
+        Fields { bytes, used: 0 }
+    }
+
+    /// How many bytes the fields so far take.
+    pub fn used(&self) -> usize {
+        self.used
+    }
+
     pub fn next(&mut self, range: RangeInclusive<u64>) -> Result<u64, Refusal> {
         self.next_or(range, 4)
     }
 
     /// The next field; `outside` is the refusal's number for a value outside the range.
     fn next_or(&mut self, range: RangeInclusive<u64>, outside: u64) -> Result<u64, Refusal> {
+        self.next_as(|value| range.contains(&value).then_some(value), outside)
+    }
+
+    /// What the next field's value means; `meaningless` is the refusal's number for a value that means nothing.
+    pub fn next_as<T>(&mut self, meaning: impl Fn(u64) -> Option<T>, meaningless: u64) -> Result<T, Refusal> {
         let offset = self.used;
         let refusal = |number| Refusal { number, offset };
         let (value, length) = numbers::read(&self.bytes[offset..]).map_err(refusal)?;
-        if !range.contains(&value) {
-            return Err(refusal(outside));
-        }
+        let meant = meaning(value).ok_or(refusal(meaningless))?;
         self.used += length;
-        Ok(value)
+        Ok(meant)
     }
 }
 
 /// The road at the front of `bytes`, and how many bytes it takes.
 pub fn read_road(bytes: &[u8]) -> Result<(Road, usize), Refusal> {
-    let mut fields = Fields { bytes, used: 0 };
+    let mut fields = Fields::of(bytes);
     let ns = fields.next(1..=64)?;
     let mut road = Road {
         jam_density: fields.next(100..=300)?,
@@ -163,7 +182,7 @@ pub fn read_road(bytes: &[u8]) -> Result<(Road, usize), Refusal> {
 
 /// The period at the front of `bytes` for a road, and how many bytes it takes.
 pub fn read_period<E: Layout>(bytes: &[u8], road: &Road) -> Result<(Period<E>, usize), Refusal> {
-    let mut fields = Fields { bytes, used: 0 };
+    let mut fields = Fields::of(bytes);
     let ns = road.segments.len() as u64;
     fields.next_or(ns..=ns, 14)?;
     let mut period =

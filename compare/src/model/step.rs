@@ -187,9 +187,13 @@ fn flows<E: Layout>(road: &Road, period: &Period<E>, state: &State, splits: &[Sp
 
 /// The level letter of a segment that holds n.
 pub fn letter(segment: &Segment, n: u64) -> u8 {
+    letter_by(|limit| 22 * n <= limit * segment.length * segment.lanes)
+}
+
+/// The letter of the first limit, in vehicles per mile per lane, that something is within.
+pub fn letter_by(within: impl Fn(u64) -> bool) -> u8 {
     let limits = [(b'A', 11), (b'B', 18), (b'C', 26), (b'D', 35), (b'E', 45)];
-    let within = |&&(_, limit): &&(u8, u64)| 22 * n <= limit * segment.length * segment.lanes;
-    limits.iter().find(within).map_or(b'F', |&(letter, _)| letter)
+    limits.iter().find(|&&(_, limit)| within(limit)).map_or(b'F', |&(letter, _)| letter)
 }
 
 #[cfg(test)]

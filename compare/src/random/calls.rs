@@ -1,6 +1,6 @@
 //! Random lists of calls on random roads: most of them suit the facility on which they are made, the others are refused in every way.
 
-use super::{bad_form, damaged, noise, out_of_range, segments, truncated, with_tail, wrong_ns};
+use super::{mostly_sound, segments};
 use super::{Fields, Layout, Random, Style, STYLES};
 use crate::calls::{Buffer, Call};
 use crate::model::facility::{Facility, MOST_PERIODS};
@@ -102,7 +102,7 @@ impl List {
             self.road = road(&mut self.random, self.day);
         }
         let sheet = Fields { random: self.random.split(), ..self.road.clone() };
-        Call::Lay(if self.day { sheet.bytes() } else { self.bytes(sheet) })
+        Call::Lay(if self.day { sheet.bytes() } else { mostly_sound(&mut self.random, sheet) })
     }
 
     /// No bytes, or a sheet for the road, or for another, or of the first layout.
@@ -117,26 +117,12 @@ impl List {
             6..=8 => self.road.sheet(Layout::First),
             _ => self.road.sheet(Layout::OFTEN_CLOSED),
         };
-        Call::Take(self.bytes(sheet))
+        Call::Take(mostly_sound(&mut self.random, sheet))
     }
 
     /// No bytes; now and then a single one, which is a sheet whose NS is wrong.
     fn repeat(&mut self) -> Call {
         Call::Take(if self.random.chance(6) { vec![0] } else { Vec::new() })
-    }
-
-    /// A sheet's bytes, mostly as they are, at times with others behind them or damaged.
-    fn bytes(&mut self, mut sheet: Fields) -> Vec<u8> {
-        match self.random.within(1, 100) {
-            1..=72 => sheet.bytes(),
-            73..=80 => with_tail(&mut sheet),
-            81..=85 => out_of_range(&mut sheet),
-            86..=89 => bad_form(&mut sheet),
-            90..=92 => truncated(&mut sheet),
-            93..=96 => damaged(&mut sheet),
-            97..=98 => wrong_ns(&mut sheet),
-            _ => noise(&mut sheet.random),
-        }
     }
 
     fn run(&mut self, remaining: u64) -> Call {

@@ -1,6 +1,6 @@
 -- One turn of the running sum of demands.
 use mathlib.Core.Path.{◌≡◌, refl, sym, ap, ◌∙◌}
-use mathlib.Core.Bool.{Bool, true, false}
+use mathlib.Core.Bool.{Bool, true, false, false≢true}
 use mathlib.Core.List.{List}
 use mathlib.Core.Logic.{⊎_elim}
 use Prim.Native.Nat.{ℕ, zero, suc, ◌+◌, ◌-◌, ◌≤◌, ◌<◌}
@@ -8,10 +8,10 @@ use native.Mathlib.Nat.{add-zero, sub-zero, eq-or-lt_of_le, le_of_suc-le-suc, no
 use native.Mathlib.Numerals.{add-one}
 use native.Mathlib.Omega.{arith}
 use lib.Dec.{leb}
-use lib.IntN.{ℤ, pos, negsuc, neg_ℤ, ◌+ℤ◌, ◌-ℤ◌, +ℤ_assoc, +ℤ_comm}
+use lib.IntN.{ℤ, pos, negsuc, neg_ℤ, ◌+ℤ◌, ◌-ℤ◌, nat_abs, +ℤ_assoc, +ℤ_comm}
 use lib.ListN.{get_or}
 use borrow.Author.Tests.{le-ltb, lt-ltb, le-leb, lt-leb, leb-true}
-use Rattle.std.proofs.Math.Bool.{and-false}
+use Rattle.std.proofs.Math.Bool.{and-false, and-eq-true_iff}
 use Rattle.std.specs.Prelude.{Option, Some, None, if◌then◌else◌}
 use Rattle.sections.specs.Section.{SectionNumbers}
 use Rattle.planning_sheet.specs.Sheet.{section_at}
@@ -103,3 +103,19 @@ module _ (sections : List SectionNumbers) (carryover : List ℕ) where
 
     pub sum_out : (n : ℕ) → i < n → r ≡ None → all_within sections carryover n ≡ false
     sum_out n h w = all_out n h (outside_back (demand_of sections carryover (suc i)) (sym after ∙ w))
+
+  -- ---- a demand of sections whose demands are all within their bounds
+  most : (z : ℤ) → allowed_demand z ≡ true → nat_abs z ≤ 1000000
+  most (pos d) e = leb-true d 1000000 e
+  most (negsuc d) e = absurd (false≢true e)
+
+  each_most : (i m : ℕ) → i < m → all_within sections carryover m ≡ true → allowed_demand (demand_of sections carryover (suc i)) ≡ true
+  unfolding all_within
+  each_most i zero h e = absurd (not-suc-le-zero h)
+  each_most i (suc m) h e =
+      let b = (and-eq-true_iff (all_within sections carryover m) (allowed_demand (demand_of sections carryover (suc m)))).0 e in
+      ⊎_elim (λ (q : i ≡ m). rw q b.1) (λ (l : i < m). each_most i m l b.0) (eq-or-lt_of_le (le_of_suc-le-suc h))
+
+  pub demand_most : (i m : ℕ) → i < m → all_within sections carryover m ≡ true → demand_at sections carryover i ≤ 1000000
+  unfolding demand_at
+  demand_most i m h e = most (demand_of sections carryover (suc i)) (each_most i m h e)

@@ -5,8 +5,8 @@ use Rattle.sections.specs.Claims.{NoFaster}
 use Rattle.planning_sheet.specs.Sheet.{ReadSections, read_sheet, section_at}
 use Rattle.planning.specs.Plan.{plan_of}
 
--- THE CLAIM: where a plan isn't refused, each section of the sheet has its answer in it, with no rate RU below zero and, unless the section is
--- queued, no speed above its free-flow speed
+-- THE CLAIM: where a plan isn't refused, the answer at each section's place has a rate RU of zero or more and, unless it is a queued one, no speed
+-- above that section's free-flow speed
 abbrev pub NoneFaster : List ℕ → List ℕ → Type 0
 NoneFaster bytes carryover =
     (sections : List SectionNumbers) (used : ℕ) → read_sheet bytes ≡ ReadSections sections used → (plan_of bytes carryover).refusal ≡ 0

@@ -1,12 +1,12 @@
 -- One store of a loop that puts the values of g into a list, from the front.
-use mathlib.Core.Path.{◌≡◌, ap}
+use mathlib.Core.Path.{◌≡◌, ap, ◌∙◌}
 use mathlib.Core.List.{List, [], ◌∷◌, ◌++◌, append_assoc, map, map-append}
-use Prim.Native.Nat.{ℕ, ◌+◌, ◌<◌}
+use Prim.Native.Nat.{ℕ, ◌+◌, ◌-◌, ◌<◌}
 use native.Mathlib.Nat.{zero-add}
 use native.Mathlib.Numerals.{add-one}
 use lib.ListN.{length, get_or, take, drop, set, replicate}
 use lib.Seq.{take-suc-set, drop-cons, set_at}
-use Rattle.std.proofs.lemmas.List.{drop-replicate}
+use Rattle.std.proofs.lemmas.List.{drop-replicate, get_or_append_left}
 use Rattle.std.proofs.lemmas.List.FromFn.{length-map-range_with_len, get_or-map-range_with_len, map-range_with_len_more}
 use Rattle.planning_sheet.specs.Listing.{first, first_padded}
 
@@ -36,3 +36,8 @@ listed_more f g i xs v h e w = rw (first_more g i, add-one i, take-suc-set xs i 
 
 pub padded_is : {A : Type 0} (m n : ℕ) (g : ℕ → A) (z : A) → first n g ++ drop n (replicate m z) ≡ first_padded m n g z
 padded_is m n g z = ap (◌++◌ (first n g)) (drop-replicate n m z)
+
+-- a value of a padded list
+pub get_or-first_padded : {A : Type 0} (m n : ℕ) (g : ℕ → A) (z : A) (i : ℕ) (d : A) → i < n → get_or (first_padded m n g z) i d ≡ g i
+get_or-first_padded m n g z i d h =
+    get_or_append_left (first n g) (replicate (m - n) z) d i (rw (length_first g n) h) ∙ get_or-first g n i d h

@@ -53,7 +53,8 @@ most low high v e = grind (arith, nat_tests)
 least : (low high v : ℕ) → between low high v ≡ true → low ≤ v
 least low high v e = grind (arith, nat_tests)
 
-tabled_least : (v : ℕ) → tabled v ≡ true → 55 ≤ v
+-- a free-flow speed of the table is at least 55
+pub tabled_least : (v : ℕ) → tabled v ≡ true → 55 ≤ v
 unfolding tabled
 tabled_least v e = grind (arith, nat_tests)
 
@@ -84,7 +85,6 @@ module _ (n : ℕ) (row : List ℕ) (ok : Allowed n row) (i : ℕ) (h : i < n) w
         wide = least 1 8 _ (of_section 1 (omega arith));
         narrow = most 1 8 _ (of_section 1 (omega arith));
         row = of_section 2 (omega arith);
-        fast = tabled_least _ (of_section 2 (omega arith));
         least = least 100 1000 _ (of_section 3 (omega arith));
         share = most 100 1000 _ (of_section 3 (omega arith));
         enters = of_flow (4 * n + 2 * i) (omega arith) (omega arith);

@@ -46,7 +46,7 @@ impl Places {
     }
 
     // Section i of a row of numbers: four numbers of each section, and then the two flows of each.
-    #[tactic(auto, unfolding(crate::specs::Sheet::section_of))]
+    #[tactic(auto, using(crate::proofs::Ranges::tabled_least), unfolding(crate::specs::Sheet::section_of))]
     pub fn section_in(&self, row: &[u32; 384], i: usize) -> Section
         requires within { i < self.now.count }
         requires good { GoodSections self.now.count row.now }

@@ -1,16 +1,15 @@
 -- A section that isn't queued is never faster than its free-flow speed: its travel rate is at least 3600 / FFS, and its speed at most FFS.
-use mathlib.Core.Path.{◌≡◌, refl, ap, subst}
-use mathlib.Core.Bool.{Bool, true, false, true≢false}
-use Prim.Native.Nat.{ℕ, ◌+◌, ◌-◌, ◌*◌, ◌^◌, ◌≤◌, ◌<◌, min}
-use native.Mathlib.Nat.{le_trans, mul-le-mul}
+use mathlib.Core.Path.{◌≡◌, refl, sym, ap, subst, ◌∙◌}
+use mathlib.Core.Bool.{Bool, true, false, not, true≢false}
+use Prim.Native.Nat.{ℕ, ◌^◌, ◌≤◌, ◌<◌}
 use native.Mathlib.Omega.{arith}
 use lib.Dec.{T, ltb}
-use lib.Ieee.{Float, nan, inf, fin, binary64, of_int, lt, le}
-use lib.Ieee.Exact.{HasValue}
-use lib.Ieee.Back.{round_whole}
+use lib.Ieee.{Float, nan, inf, fin, of_int, lt, le, is_nan}
 use lib.Ieee.Positive.{positive, above, above_of_le}
-use borrow.Author.Tests.{le-ltb, ltb-false}
+use borrow.Author.Tests.{le-ltb, ltb-false, ltb-true}
 use Rattle.std.specs.Prelude.{if◌then◌else◌}
+use Rattle.std.specs.Float.{NotNan}
+use Rattle.std.proofs.lemmas.Float.{le_of_not-lt}
 use Rattle.sections.specs.declared.table.Row.{Row}
 use Rattle.sections.specs.declared.work.Work.{Work}
 use Rattle.sections.specs.Real.{real, ◌⊕◌, ◌⊗◌, ◌⊘◌}
@@ -19,9 +18,10 @@ use Rattle.sections.specs.Section.{SectionNumbers, Outcome, free, slowed, queued
 use Rattle.sections.specs.Claims.{NoFaster}
 use Rattle.sections.specs.Good.{GoodSection}
 use Rattle.sections.proofs.FiveRows.{small_within, free_rate, AtRow, at_row}
-use Rattle.sections.proofs.Within.{Within, product_within, sum_within, quotient_within}
-use Rattle.sections.proofs.Order.{none, plus_none, grows, falls}
-use Rattle.sections.proofs.Floor.{never_below}
+use Rattle.sections.proofs.Within.{Within, product_within, sum_within}
+use Rattle.sections.proofs.Order.{plus_zero, zero_added, grows, falls}
+use Rattle.sections.proofs.Ratio.{ratio_within, ratio_above, some_capacity, little_capacity}
+use Rattle.sections.proofs.Floor.{never_below, above_one}
 
 finite : (k : ℕ) (x : Float) → Within k x → T (above x) → T (positive x)
 finite k nan w a = absurd w
@@ -43,18 +43,18 @@ module _ (ffs : ℕ) (row : AtRow ffs) where
       product_within 747 1 _ w (omega arith) (sum_within 498 249 _ _ (omega arith) two row.c) h in
       sum_within 747 249 _ _ (omega arith) three row.d
 
-  by_ratio : (p : Float) (t u : Bool) → Within 1 p → Within 996 (if t then real 0 else curve_of coefficients (if u then real 1 else p))
+  by_ratio : (p : Float) (t u : Bool) → (u ≡ false → Within 1 p) → Within 996 (if t then real 0 else curve_of coefficients (if u then real 1 else p))
   unfolding of_int
   by_ratio p true u h = small_within 996 (real 0) refl
   by_ratio p false true h = curve_within (real 1) (small_within 1 (real 1) refl)
-  by_ratio p false false h = curve_within p h
+  by_ratio p false false h = curve_within p (h refl)
 
   floored_within : (x : Float) (t : Bool) → Within 996 x → Within 996 (if t then real 0 else x)
   unfolding of_int
   floored_within x true h = small_within 996 (real 0) refl
   floored_within x false h = h
 
-  under_within : (p : Float) → Within 1 p → Within 996 (under_of coefficients p)
+  under_within : (p : Float) → (lt (real 1) p ≡ false → Within 1 p) → Within 996 (under_of coefficients p)
   unfolding under_of printed_of
   under_within p h = floored_within _ (lt (printed_of coefficients p) (real 0)) (by_ratio p (lt p coefficients.e) (lt (real 1) p) h)
 
@@ -65,11 +65,11 @@ module _ (ffs : ℕ) (row : AtRow ffs) where
 
     delay_within : Within 996 (ru ⊕ real 0)
     unfolding of_int
-    delay_within = sum_within 996 0 ru none (omega arith) w (omega arith)
+    delay_within = sum_within 996 0 ru plus_zero (omega arith) w (omega arith)
 
     least : T (le row.rate delayed)
     unfolding of_int
-    least = subst (λ (x : Float). T (le x delayed)) row.kept (grows 996 (ru ⊕ real 0) row.rate delay_within (plus_none 996 ru w up) row.above)
+    least = subst (λ (x : Float). T (le x delayed)) row.kept (grows 996 (ru ⊕ real 0) row.rate delay_within (zero_added 996 ru w up) row.above)
 
     positive_delayed : T (positive delayed)
     positive_delayed =
@@ -93,48 +93,48 @@ told : (b : Bool) → T b → b ≡ true
 told true t = refl
 told false t = absurd t
 
-whole : (n : ℕ) → n ≤ 2 ^ 53 → HasValue (real n) false n 1
-unfolding of_int
-whole n h = round_whole binary64 false n h
+number : (k : ℕ) (x : Float) → Within k x → NotNan x
+unfolding is_nan
+number k nan w = absurd w
+number k (inf s) w = absurd w
+number k (fin s m e) w = tt
 
-module _ (s : SectionNumbers) (good : GoodSection s) where
-  some_capacity : 0 < capacity_of s
-  unfolding capacity_of
-  some_capacity =
-      let base : 2200 ≤ 2200 + 10 * (min 70 s.ffs - 50) = omega arith in
-      let lanes : 2200 * 1 ≤ (2200 + 10 * (min 70 s.ffs - 50)) * s.lanes = mul-le-mul base good.wide in
-      let all : 2200 * 1 * 100 ≤ (2200 + 10 * (min 70 s.ffs - 50)) * s.lanes * s.caf = mul-le-mul lanes good.least in
-      omega (arith, all)
+module _ (s : SectionNumbers) (good : GoodSection s) (d : ℕ) (D : d ≤ 2 ^ 53) where
+  abbrev c : ℕ
+  c = capacity_of s
 
-  little_capacity : capacity_of s ≤ 2 ^ 53
-  unfolding capacity_of
-  little_capacity =
-      let base : 2200 + 10 * (min 70 s.ffs - 50) ≤ 2400 = omega arith in
-      let lanes : (2200 + 10 * (min 70 s.ffs - 50)) * s.lanes ≤ 2400 * 8 = mul-le-mul base good.narrow in
-      let all : (2200 + 10 * (min 70 s.ffs - 50)) * s.lanes * s.caf ≤ 2400 * 8 * 1000 = mul-le-mul lanes good.share in
-      omega (arith, all)
+  abbrev ratio : Float
+  ratio = ratio_of d c
 
-  module _ (d : ℕ) (room : d ≤ capacity_of s) where
-    abbrev ratio : Float
-    ratio = ratio_of d (capacity_of s)
+  abbrev rate : Float
+  rate = under_of (row_of s.ffs) ratio
 
-    abbrev rate : Float
-    rate = under_of (row_of s.ffs) ratio
+  -- with a queue the ratio is above 1, and RU is the printed rate
+  above_with_queue : c < d → lt (real 1) ratio ≡ true
+  above_with_queue h = told _ (ratio_above d c D (some_capacity s good) (little_capacity s good) h)
 
-    ratio_within : Within 1 ratio
-    unfolding ratio_of
-    ratio_within =
-        quotient_within (real d) (real (capacity_of s)) d (capacity_of s) (whole d (le_trans room little_capacity)) (whole (capacity_of s) little_capacity) some_capacity room
+  pub queued_as_printed : c < d → rate ≡ printed_of (row_of s.ffs) ratio
+  queued_as_printed h = above_one s.ffs good.row ratio (above_with_queue h)
 
-    rate_within : Within 996 rate
-    rate_within = under_within s.ffs (at_row s.ffs good.row) ratio ratio_within
+  within_by : (t : Bool) → ltb c d ≡ t → lt (real 1) ratio ≡ false → Within 1 ratio
+  within_by true q e = absurd (true≢false (sym (above_with_queue (ltb-true c d q)) ∙ e))
+  within_by false q e = ratio_within d c D (some_capacity s good) (little_capacity s good) (ltb-false c d q)
 
-    no_over : over_of s.length d (capacity_of s) ratio ≡ real 0
+  rate_within : Within 996 rate
+  rate_within = under_within s.ffs (at_row s.ffs good.row) ratio (within_by (ltb c d) refl)
+
+  zero_or_more : le (real 0) rate ≡ true
+  unfolding of_int is_nan
+  zero_or_more =
+      told _ (le_of_not-lt rate (real 0) (number 996 rate rate_within) tt (subst (λ (t : Bool). T (not t)) (sym (never_below (row_of s.ffs) ratio)) tt))
+
+  module _ (room : d ≤ c) where
+    no_over : over_of s.length d c ratio ≡ real 0
     unfolding over_of
-    no_over = rw (le-ltb (capacity_of s) d room)
+    no_over = rw (le-ltb c d room)
 
     abbrev travel : Float
-    travel = travel_of s.ffs rate (over_of s.length d (capacity_of s) ratio)
+    travel = travel_of s.ffs rate (over_of s.length d c ratio)
 
     -- TR is at least 3600 / FFS
     pub travel_at_least : T (le (free_rate s.ffs) travel)
@@ -147,14 +147,12 @@ module _ (s : SectionNumbers) (good : GoodSection s) where
   abbrev answer_by : Bool → Bool → Work → Outcome
   answer_by t u w = if t then queued w.under w.over w.speed w.density else if u then free w.speed w.density else slowed w.under w.speed w.density
 
-  answered : (t u : Bool) (w : Work) → lt w.under (real 0) ≡ false → (t ≡ false → le w.speed (real s.ffs) ≡ true) → NoFaster s (answer_by t u w)
-  unfolding of_int lt
+  answered : (t u : Bool) (w : Work) → le (real 0) w.under ≡ true → (t ≡ false → le w.speed (real s.ffs) ≡ true) → NoFaster s (answer_by t u w)
+  unfolding of_int le
   answered true u w r v = record { rate = r; speed = λ q. absurd (true≢false q) }
   answered false true w r v = record { rate = refl; speed = λ q. v refl }
   answered false false w r v = record { rate = r; speed = λ q. v refl }
 
-  pub no_faster : (d : ℕ) → NoFaster s (answer_of s d)
+  pub no_faster : NoFaster s (answer_of s d)
   unfolding answer_of judged_of work_of
-  no_faster d =
-      answered (ltb (capacity_of s) d) _ (work_of (row_of s.ffs) s (capacity_of s) d) (never_below (row_of s.ffs) (ratio_of d (capacity_of s)))
-      (λ e. told _ (speed_at_most d (ltb-false (capacity_of s) d e)))
+  no_faster = answered (ltb c d) _ (work_of (row_of s.ffs) s c d) zero_or_more (λ e. told _ (speed_at_most (ltb-false c d e)))

@@ -5,6 +5,7 @@ pub mod AboveE
 pub mod Signs
 pub mod Within
 pub mod Order
+pub mod Ratio
 pub mod FiveRows
 pub mod Floor
 pub mod FreeFlow

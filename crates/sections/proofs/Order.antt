@@ -7,21 +7,22 @@ use native.Mathlib.Nat.{le_trans, le_of_eq, lt_irrefl, mul-pos, mul-le-mul_left,
 use native.Mathlib.Omega.{arith}
 use lib.Dec.{T, ltb, ltb→lt}
 use lib.IntN.{ℤ, pos}
-use lib.Ieee.{Float, nan, inf, fin, binary64, up, down, round, sum, add, div, lt, le}
+use lib.Ieee.{Float, nan, inf, fin, binary64, up, down, unlike, round, sum, add, div, lt, le}
 use lib.Ieee.Fits.{up_pos, down_pos}
 use lib.Ieee.Order.{round_mono}
 use lib.Ieee.Positive.{positive, num, den, le→cross}
-use borrow.Author.Tests.{ltb-false, le-ltb}
+use borrow.Author.Tests.{ltb-false, le-ltb, ne_eqb}
 use Rattle.std.specs.Float.{float_with_sign}
 use Rattle.sections.proofs.Signs.{signed_round}
-use Rattle.sections.proofs.Within.{Within, quotient_is}
+use Rattle.sections.proofs.Within.{Within}
 
-abbrev pub none : Float
-none = fin false 0 (pos 0)
+-- zero, without a minus
+abbrev pub plus_zero : Float
+plus_zero = fin false 0 (pos 0)
 
 -- x isn't below zero
 abbrev pub NotBelow : Float → Type 0
-NotBelow x = lt x none ≡ false
+NotBelow x = lt x plus_zero ≡ false
 
 -- a negative zero is the one float with a minus that isn't below zero
 minus_zero : (m : ℕ) (e : ℤ) → NotBelow (fin true m e) → m * up e ≡ 0
@@ -38,7 +39,7 @@ rounded : (a c : ℕ) → NotBelow (round binary64 false a c)
 rounded a c = subst NotBelow (signed_round false a c) (unsigned (round binary64 false a c))
 
 -- ---- a sum
--- of a with either sign, where a minus has a zero, and b
+-- of a / c, which is zero where it has a minus, and b / c
 sum_up : (s : Bool) (a b c : ℕ) → (s ≡ true → a ≡ 0) → sum binary64 s a false b c ≡ round binary64 false (a + b) c
 unfolding sum
 sum_up false a b c h = refl
@@ -57,10 +58,10 @@ sum_is s m e n d h = sum_up s (m * up e * down d) (n * up d * down e) (down e * 
     unsigned_part true b p = ap (λ (z : ℕ). z * down d) (minus_zero m e b) ∙ zero-mul (down d)
     unsigned_part false b p = absurd (false≢true p)
 
-pub plus_none : (k : ℕ) (x : Float) → Within k x → NotBelow x → NotBelow (add binary64 x none)
-plus_none k nan w h = absurd w
-plus_none k (inf s) w h = absurd w
-plus_none k (fin s m e) w h = subst NotBelow (sym (sum_is s m e 0 (pos 0) h)) (rounded _ _)
+pub zero_added : (k : ℕ) (x : Float) → Within k x → NotBelow x → NotBelow (add binary64 x plus_zero)
+zero_added k nan w h = absurd w
+zero_added k (inf s) w h = absurd w
+zero_added k (fin s m e) w h = subst NotBelow (sym (sum_is s m e 0 (pos 0) h)) (rounded _ _)
 
 -- the sum with t is at least t, rounded
 pub grows : (k : ℕ) (x t : Float) → Within k x → NotBelow x → T (positive t) → T (le (round binary64 false (num t) (den t)) (add binary64 x t))
@@ -77,6 +78,11 @@ grows k (fin s m e) (fin false n d) w h p =
     more = le_trans (le_of_eq (sym (mul_assoc (n * up d) (down e) (down d)))) (mul-le-mul_right (down d) (omega arith))
 
 -- ---- a quotient
+pub quotient_is : (s t : Bool) (m : ℕ) (e : ℤ) (n : ℕ) (g : ℤ) → n ≢ 0
+    → div binary64 (fin s m e) (fin t n g) ≡ round binary64 (unlike s t) (m * up e * down g) (n * up g * down e)
+unfolding div
+quotient_is s t m e n g h = rw (ne_eqb n 0 h)
+
 not_zero : (n : ℕ) → T (ltb 0 n) → n ≢ 0
 not_zero n p z = lt_irrefl 0 (subst (λ (k : ℕ). 0 < k) z (ltb→lt 0 n p))
 

@@ -1,15 +1,13 @@
 -- Floats that are finite and at most a whole number in size, whatever their sign. Products and sums of such are such, since rounding keeps the order.
-use mathlib.Core.Path.{◌≡◌, sym, ap, ◌∙◌, subst}
+use mathlib.Core.Path.{sym, ap, ◌∙◌, subst}
 use mathlib.Core.Bool.{Bool, true, false, cond, beq, ◌&&◌, ◌||◌, true≢false}
-use mathlib.Core.Logic.{◌⊎◌, inl, inr, ⊎_elim, ◌≢◌}
+use mathlib.Core.Logic.{◌⊎◌, inl, inr, ⊎_elim}
 use Prim.Native.Nat.{ℕ, ◌+◌, ◌-◌, ◌*◌, ◌^◌, ◌≤◌, ◌<◌}
-use native.Mathlib.Nat.{le_trans, le_of_eq, le_of_lt, lt_irrefl, lt_of_lt_of_le, zero-lt-suc, mul-one, one-mul, mul-pos, mul-le-mul, mul-le-mul_right, le_of_mul-le-mul_right, mul_right_comm, mul_comm, mul_assoc, mul-mul-mul_comm, add-mul, add-le-add}
+use native.Mathlib.Nat.{le_trans, le_of_eq, le_of_lt, zero-lt-suc, mul-one, mul-pos, mul-le-mul, mul-le-mul_right, le_of_mul-le-mul_right, mul_right_comm, mul_assoc, mul-mul-mul_comm, add-mul, add-le-add}
 use native.Mathlib.Omega.{arith}
 use lib.Dec.{T, ltb, eqb, ltb→lt, eqb→eq}
-use lib.IntN.{ℤ}
-use lib.Ieee.{Float, nan, inf, fin, binary64, up, down, unlike, round, sum, add, mul, div, le}
+use lib.Ieee.{Float, nan, inf, fin, binary64, up, down, unlike, round, sum, add, mul, le}
 use lib.Ieee.Fits.{down_pos, and_l}
-use borrow.Author.Tests.{ne_eqb}
 use lib.Ieee.Exact.{HasValue}
 use lib.Ieee.Order.{round_mono}
 use lib.Ieee.Back.{round_whole}
@@ -30,7 +28,7 @@ le_by a b h = ⊎_elim (λ (t : T (ltb a b)). le_of_lt (ltb→lt a b t)) (λ (t 
     either true y t = inl tt
     either false y t = inr t
 
--- x is what a float of that size becomes with the sign s
+-- x with any sign is within k, if without a minus it is at most y, whose value is k
 held : (s : Bool) (x y : Float) (k : ℕ) → HasValue y false k 1 → T (le (float_with_sign false x) y) → Within k (float_with_sign s x)
 unfolding le float_with_sign
 held s nan y k v h = absurd h
@@ -95,37 +93,3 @@ sum_within j k (fin s m e) (fin t n d) K a b =
         (le_of_eq (ap (λ (z : ℕ). z + k * down d * down e) (mul_assoc j (down e) (down d))
         ∙ ap (λ (z : ℕ). j * (down e * down d) + z) (mul_right_comm k (down d) (down e) ∙ mul_assoc k (down e) (down d))
         ∙ sym (add-mul j k (down e * down d))))
-
--- ---- a quotient d / c of at most 1
-pub quotient_is : (s t : Bool) (m : ℕ) (e : ℤ) (n : ℕ) (g : ℤ) → n ≢ 0
-    → div binary64 (fin s m e) (fin t n g) ≡ round binary64 (unlike s t) (m * up e * down g) (n * up g * down e)
-unfolding div
-quotient_is s t m e n g h = rw (ne_eqb n 0 h)
-
-not_zero : (n u c v : ℕ) → n * u * 1 ≡ c * v → 0 < c → 0 < v → n ≢ 0
-not_zero n u c v h C V z = absurd (lt_irrefl 0 (lt_of_lt_of_le (mul-pos C V) (le_of_eq (sym h ∙ ap (λ (k : ℕ). k * u * 1) z ∙ omega arith))))
-
-pub quotient_within : (x y : Float) (d c : ℕ) → HasValue x false d 1 → HasValue y false c 1 → 0 < c → d ≤ c → Within 1 (div binary64 x y)
-quotient_within nan y d c v w C h = absurd v
-quotient_within (inf s) y d c v w C h = absurd v
-quotient_within (fin s m e) nan d c v w C h = absurd w
-quotient_within (fin s m e) (inf t) d c v w C h = absurd w
-quotient_within (fin s m e) (fin t n g) d c v w C h =
-    subst (Within 1) (sym (quotient_is s t m e n g (not_zero n (up g) c (down g) w.1 C (down_pos g))))
-    (round_within (unlike s t) (m * up e * down g) (n * up g * down e) 1 (positive_den) (omega arith) ratio)
-  where
-    num_is : m * up e ≡ d * down e
-    num_is = sym (mul-one (m * up e)) ∙ v.1
-
-    den_is : n * up g ≡ c * down g
-    den_is = sym (mul-one (n * up g)) ∙ w.1
-
-    positive_den : 0 < n * up g * down e
-    positive_den = rw den_is (mul-pos (mul-pos C (down_pos g)) (down_pos e))
-
-    ratio : m * up e * down g ≤ 1 * (n * up g * down e)
-    ratio =
-        rw (num_is, den_is)
-        (le_trans (le_of_eq (mul_assoc d (down e) (down g)))
-        (le_trans (mul-le-mul_right (down e * down g) h)
-        (le_of_eq (ap (λ (z : ℕ). c * z) (mul_comm (down e) (down g)) ∙ sym (mul_assoc c (down g) (down e)) ∙ sym (one-mul (c * down g * down e))))))

@@ -1,10 +1,10 @@
 -- Document 02, Q-6, "Faster than free flow": what is claimed of a section's answer.
 use Rattle.std.specs.Prelude.{◌≡◌, true, false, Float}
-use Rattle.std.specs.Float.Ieee.{lt, le}
+use Rattle.std.specs.Float.Ieee.{le}
 use Rattle.sections.specs.Real.{real}
 use Rattle.sections.specs.Section.{SectionNumbers, Outcome, free, slowed, queued, queued_in}
 
--- RU as it is answered: a free section has none
+-- RU: 0 for a free section, whose answer leaves it out
 abbrev pub under_in : Outcome → Float
 under_in (free v k) = real 0
 under_in (slowed ru v k) = ru
@@ -15,7 +15,7 @@ speed_in (free v k) = v
 speed_in (slowed ru v k) = v
 speed_in (queued ru ro v k) = v
 
--- RU isn't below zero, and a section that isn't queued isn't faster than its free-flow speed
+-- RU is zero or more, and a section that isn't queued isn't faster than its free-flow speed
 pub record NoFaster (s : SectionNumbers) (o : Outcome) : Type 0 where
-  pub rate : lt (under_in o) (real 0) ≡ false
+  pub rate : le (real 0) (under_in o) ≡ true
   pub speed : queued_in o ≡ false → le (speed_in o) (real s.ffs) ≡ true

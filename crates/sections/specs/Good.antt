@@ -1,4 +1,4 @@
--- What the whole-number arithmetic of a section and the laws of its speed ask of it, each bound a range of the sheet: no rule of document 01.
+-- What the whole-number arithmetic of a section and the laws of its speed ask of it, each a bound or a test of the sheet: no rule of document 01.
 use Rattle.std.specs.Prelude.{◌≡◌, ◌≤◌, true}
 use Rattle.sections.specs.Section.{SectionNumbers}
 use Rattle.sections.specs.Table.{tabled}
@@ -8,7 +8,6 @@ pub record GoodSection (s : SectionNumbers) : Type 0 where
   pub wide : 1 ≤ s.lanes
   pub narrow : s.lanes ≤ 8
   pub row : tabled s.ffs ≡ true
-  pub fast : 55 ≤ s.ffs
   pub least : 100 ≤ s.caf
   pub share : s.caf ≤ 1000
   pub enters : s.inflow ≤ 20000

@@ -1,4 +1,5 @@
--- Document 01, "Planning sheet": one section, from its demand, in the paper's order of operations. Equation numbers are document 000's.
+-- Document 01, "Planning sheet", and document 02, Q-6, RU below zero: one section, from its demand, in the paper's order of operations. Equation
+-- numbers are document 000's.
 use Rattle.std.specs.Prelude.{ℕ, ◌+◌, ◌*◌, ◌-◌, ◌/◌, Bool, true, false, min, ltb, Float, if◌then◌else◌}
 use Rattle.std.specs.Float.Ieee.{lt}
 use Rattle.sections.specs.declared.table.Row.{Row}

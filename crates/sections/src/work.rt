@@ -40,6 +40,7 @@ fn under(row: Row, ratio: f64) -> f64
     ensures { result ≡ under_of row ratio }
 {
     let printed = printed(row, ratio);
+    // Stays: no plainer. `printed.max(0.0)` would make 0 of a rate that is no number, which the definition keeps.
     if printed < 0.0 {
         return 0.0;
     }
