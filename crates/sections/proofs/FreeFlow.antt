@@ -1,10 +1,12 @@
--- A section that isn't queued is never faster than its free-flow speed: its travel rate is at least 3600 / FFS, and its speed at most FFS.
+-- RU of every section is zero or more, and of a queued one the printed rate. A section that isn't queued is never faster than its free-flow speed: its
+-- travel rate is at least 3600 / FFS, and its speed at most FFS.
 use mathlib.Core.Path.{◌≡◌, refl, sym, ap, subst, ◌∙◌}
 use mathlib.Core.Bool.{Bool, true, false, not, true≢false}
 use Prim.Native.Nat.{ℕ, ◌^◌, ◌≤◌, ◌<◌}
 use native.Mathlib.Omega.{arith}
 use lib.Dec.{T, ltb}
 use lib.Ieee.{Float, nan, inf, fin, of_int, lt, le, is_nan}
+use lib.Ieee.Bits.{is_true}
 use lib.Ieee.Positive.{positive, above, above_of_le}
 use borrow.Author.Tests.{le-ltb, ltb-false, ltb-true}
 use Rattle.std.specs.Prelude.{if◌then◌else◌}
@@ -22,6 +24,13 @@ use Rattle.sections.proofs.Within.{Within, product_within, sum_within}
 use Rattle.sections.proofs.Order.{plus_zero, zero_added, grows, falls}
 use Rattle.sections.proofs.Ratio.{ratio_within, ratio_above, some_capacity, little_capacity}
 use Rattle.sections.proofs.Floor.{never_below, above_one}
+
+-- ---- what is within a bound is a number, and finite
+is_number : (k : ℕ) (x : Float) → Within k x → NotNan x
+unfolding is_nan
+is_number k nan w = absurd w
+is_number k (inf s) w = absurd w
+is_number k (fin s m e) w = tt
 
 finite : (k : ℕ) (x : Float) → Within k x → T (above x) → T (positive x)
 finite k nan w a = absurd w
@@ -89,16 +98,6 @@ module _ (ffs : ℕ) (row : AtRow ffs) where
         (subst (λ (x : Float). T (le (real 3600 ⊘ delayed) x)) row.speed (falls (real 3600) row.rate delayed tt row.above positive_delayed least))
 
 -- ---- a section
-told : (b : Bool) → T b → b ≡ true
-told true t = refl
-told false t = absurd t
-
-number : (k : ℕ) (x : Float) → Within k x → NotNan x
-unfolding is_nan
-number k nan w = absurd w
-number k (inf s) w = absurd w
-number k (fin s m e) w = tt
-
 module _ (s : SectionNumbers) (good : GoodSection s) (d : ℕ) (D : d ≤ 2 ^ 53) where
   abbrev c : ℕ
   c = capacity_of s
@@ -111,7 +110,7 @@ module _ (s : SectionNumbers) (good : GoodSection s) (d : ℕ) (D : d ≤ 2 ^ 53
 
   -- with a queue the ratio is above 1, and RU is the printed rate
   above_with_queue : c < d → lt (real 1) ratio ≡ true
-  above_with_queue h = told _ (ratio_above d c D (some_capacity s good) (little_capacity s good) h)
+  above_with_queue h = is_true _ (ratio_above d c D (some_capacity s good) (little_capacity s good) h)
 
   pub queued_as_printed : c < d → rate ≡ printed_of (row_of s.ffs) ratio
   queued_as_printed h = above_one s.ffs good.row ratio (above_with_queue h)
@@ -126,7 +125,7 @@ module _ (s : SectionNumbers) (good : GoodSection s) (d : ℕ) (D : d ≤ 2 ^ 53
   zero_or_more : le (real 0) rate ≡ true
   unfolding of_int is_nan
   zero_or_more =
-      told _ (le_of_not-lt rate (real 0) (number 996 rate rate_within) tt (subst (λ (t : Bool). T (not t)) (sym (never_below (row_of s.ffs) ratio)) tt))
+      is_true _ (le_of_not-lt rate (real 0) (is_number 996 rate rate_within) tt (subst (λ (t : Bool). T (not t)) (sym (never_below (row_of s.ffs) ratio)) tt))
 
   module _ (room : d ≤ c) where
     no_over : over_of s.length d c ratio ≡ real 0
@@ -155,4 +154,4 @@ module _ (s : SectionNumbers) (good : GoodSection s) (d : ℕ) (D : d ≤ 2 ^ 53
 
   pub no_faster : NoFaster s (answer_of s d)
   unfolding answer_of judged_of work_of
-  no_faster = answered (ltb c d) _ (work_of (row_of s.ffs) s c d) zero_or_more (λ e. told _ (speed_at_most (ltb-false c d e)))
+  no_faster = answered (ltb c d) _ (work_of (row_of s.ffs) s c d) zero_or_more (λ e. is_true _ (speed_at_most (ltb-false c d e)))

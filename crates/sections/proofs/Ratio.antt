@@ -25,8 +25,8 @@ whole : (n : ℕ) → n ≤ 2 ^ 53 → HasValue (real n) false n 1
 unfolding of_int
 whole n h = round_whole binary64 false n h
 
-not_zero : (n u c v : ℕ) → n * u ≡ c * v → 0 < c → 0 < v → n ≢ 0
-not_zero n u c v h C V z = lt_irrefl 0 (lt_of_lt_of_le (mul-pos C V) (le_of_eq (sym h ∙ ap (λ (k : ℕ). k * u) z ∙ omega arith)))
+divisor_not_zero : (n u c v : ℕ) → n * u ≡ c * v → 0 < c → 0 < v → n ≢ 0
+divisor_not_zero n u c v h C V z = lt_irrefl 0 (lt_of_lt_of_le (mul-pos C V) (le_of_eq (sym h ∙ ap (λ (k : ℕ). k * u) z ∙ omega arith)))
 
 quotient_at : (x y : Float) (d c : ℕ) → HasValue x false d 1 → HasValue y false c 1 → 0 < c → div binary64 x y ≡ round binary64 false d c
 quotient_at nan y d c v w C = absurd v
@@ -36,7 +36,7 @@ quotient_at (fin s m e) (inf t) d c v w C = absurd w
 quotient_at (fin true m e) (fin t n g) d c v w C = absurd (true≢false v.0)
 quotient_at (fin false m e) (fin true n g) d c v w C = absurd (true≢false w.0)
 quotient_at (fin false m e) (fin false n g) d c v w C =
-    quotient_is false false m e n g (not_zero n (up g) c (down g) den_is C (down_pos g))
+    quotient_is false false m e n g (divisor_not_zero n (up g) c (down g) den_is C (down_pos g))
     ∙ round_same binary64 false (m * up e * down g) (n * up g * down e) d c (rw den_is (mul-pos (mul-pos C (down_pos g)) (down_pos e))) C cross
   where
     num_is : m * up e ≡ d * down e
