@@ -1,6 +1,11 @@
 /*
  * The freeway queue forecast engine, for programs in C. Link with target/staticlib/libstudy.a for the forecast, and with
  * target/staticlib/libconvert.a for the conversions.
+ *
+ * What changed when part-feet came: a forecast fills 265 numbers, not 200. FREEWAY_PART_FEET and FREEWAY_PART_FEET_OF(i)
+ * are new, FREEWAY_ORIGIN is 8, not 7, and the numbers of segment i begin at 9 + 4 * i, not at 8 + 3 * i. Programs have to be
+ * compiled again: one that was not and lends room for 200 numbers gets 7, and one that lends room for 265 finds other numbers
+ * at the old places.
  */
 
 #ifndef FREEWAY_FORECAST_H
@@ -14,7 +19,7 @@ extern "C" {
 #endif
 
 /* How many numbers a forecast fills. */
-#define FREEWAY_FORECAST_NUMBERS 200
+#define FREEWAY_FORECAST_NUMBERS 265
 
 /* Where each number stands in `out`. */
 enum {
@@ -25,21 +30,23 @@ enum {
     FREEWAY_LEFT = 4,       /* parts that left */
     FREEWAY_STORED = 5,     /* parts in all segments and queues at the end */
     FREEWAY_PART_STEPS = 6, /* sum over the steps of what was stored after each */
-    FREEWAY_ORIGIN = 7      /* parts in the mainline queue before the first segment */
+    FREEWAY_PART_FEET = 7,  /* part-feet of the road, the sum of its segments' (a vehicle-mile is 240 * 5280 of them) */
+    FREEWAY_ORIGIN = 8      /* parts in the mainline queue before the first segment */
 };
 
 /* Where segment i stands in `out`, counted from 0. */
-#define FREEWAY_PARTS(i) (8 + 3 * (i))   /* parts in the segment */
-#define FREEWAY_QUEUE(i) (9 + 3 * (i))   /* parts in its on-ramp's queue */
-#define FREEWAY_LETTER(i) (10 + 3 * (i)) /* level letter, 'A' to 'F' */
+#define FREEWAY_PARTS(i) (9 + 4 * (i))         /* parts in the segment */
+#define FREEWAY_QUEUE(i) (10 + 4 * (i))        /* parts in its on-ramp's queue */
+#define FREEWAY_LETTER(i) (11 + 4 * (i))       /* level letter, 'A' to 'F' */
+#define FREEWAY_PART_FEET_OF(i) (12 + 4 * (i)) /* its part-feet: in all steps, the parts that left it times its length in feet */
 
 /*
- * Reads a study (a road sheet, then period sheets to the end), runs every period whole, and fills the first 200 numbers
- * of `out`; those not named above are 0. After a refusal all but the first two are 0. Numbers past the 200th keep
+ * Reads a study (a road sheet, then period sheets to the end), runs every period whole, and fills the first 265 numbers
+ * of `out`; those not named above are 0. After a refusal all but the first two are 0. Numbers past the 265th keep
  * their contents. A period sheet has three numbers for each segment: ramp demand, meter rate, open lanes. What an
  * off-ramp's share has beside its whole parts is carried from step to step, over periods too.
  *
- * Gives the refusal's number, 0 for none. Where `out_len` is below 200 it gives 7 and leaves `out` as it was.
+ * Gives the refusal's number, 0 for none. Where `out_len` is below 265 it gives 7 and leaves `out` as it was.
  *
  * `study` and `out` must not overlap. Nothing is allocated, and nothing is kept between calls.
  */

@@ -141,18 +141,19 @@ impl Display for Answer {
             Answer::Used(bytes) => write!(f, " used {bytes}"),
             Answer::Run => Ok(()),
             Answer::Report(report) => {
-                let Report { total_off, total_y, .. } = report;
-                write!(f, " {} total-off {total_off} total-y {total_y}", state_and_flows(report))
+                let Report { total_off, total_y, part_feet, .. } = report;
+                let state_and_flows = state_and_flows(report);
+                write!(f, " {state_and_flows} total-off {total_off} total-y {total_y} partfeet {part_feet}")
             }
-            Answer::Totals(Totals { arrived, left, stored, part_steps }) => {
-                write!(f, " arrived {arrived} left {left} stored {stored} partsteps {part_steps}")
+            Answer::Totals(Totals { arrived, left, stored, part_steps, part_feet }) => {
+                write!(f, " arrived {arrived} left {left} stored {stored} partsteps {part_steps} partfeet {part_feet}")
             }
             Answer::Written(bytes) => write!(f, " {}", hex(bytes)),
         }
     }
 }
 
-/// A report but for its totals: the segment's state, the last step's flows and the letter.
+/// A report but for its totals and part-feet: the segment's state, the last step's flows and the letter.
 pub fn state_and_flows(report: &Report) -> String {
     let Report { n, q, f, r, off, y, letter, .. } = report;
     format!("n {n} q {q} f {f} r {r} off {off} y {y} {}", char::from(*letter))
@@ -227,8 +228,9 @@ mod tests {
         let calls = [ROAD, OPEN, "run 3", "totals", "report 1", "report 2"];
         let [laid, taken, run, totals, first, second] = answers(calls);
         assert_eq!([laid, taken, run, second], ["ok used 14", "ok used 8", "ok", "refused 6 0"]);
-        assert_eq!(totals, "ok arrived 14400 left 8492 stored 5908 partsteps 15908");
-        assert_eq!(first, "ok n 4092 q 0 f 4092 r 0 off 0 y 4092 D total-off 0 total-y 8492");
+        // 8,492 * 1,320 ft
+        assert_eq!(totals, "ok arrived 14400 left 8492 stored 5908 partsteps 15908 partfeet 11209440");
+        assert_eq!(first, "ok n 4092 q 0 f 4092 r 0 off 0 y 4092 D total-off 0 total-y 8492 partfeet 11209440");
     }
 
     #[test]
@@ -275,7 +277,7 @@ mod tests {
         let [_, first, bad, after_bad, written, taken, _, _, anew, totals] = answers(calls);
         assert_eq!([first, after_bad, written, anew], ["refused 10 0"; 4]);
         assert_eq!([bad, taken], ["refused 4 7", "ok used 8"]);
-        assert_eq!(totals, "ok arrived 0 left 0 stored 0 partsteps 0");
+        assert_eq!(totals, "ok arrived 0 left 0 stored 0 partsteps 0 partfeet 0");
     }
 
     #[test]

@@ -7,7 +7,7 @@ mod program;
 
 use crate::model::facility::Facility;
 use crate::model::sheets::Refusal;
-use crate::outcome::Outcome;
+use crate::outcome::{Outcome, NUMBERS};
 use crate::random::{self, Layout, Random};
 use crate::{engine, idiomatic, model, tuned};
 use std::collections::BTreeMap;
@@ -24,7 +24,25 @@ struct Tally {
     above_jam: u64,
     no_capacity: u64,
     remainder: u64,
+    /// Of each study, the most of a segment.
+    part_feet: PartFeet,
     letters: BTreeMap<u8, u64>,
+}
+
+/// How many part-feet were told: how often any, how often more than 32 bits hold, and the most.
+#[derive(Default)]
+struct PartFeet {
+    above_zero: u64,
+    above_32_bits: u64,
+    most: u64,
+}
+
+impl PartFeet {
+    fn add(&mut self, part_feet: u64) {
+        self.above_zero += u64::from(part_feet > 0);
+        self.above_32_bits += u64::from(part_feet > u32::MAX.into());
+        self.most = self.most.max(part_feet);
+    }
 }
 
 impl Tally {
@@ -44,6 +62,7 @@ impl Tally {
         self.above_jam += u64::from(facility.has_segment_above_jam());
         self.no_capacity += u64::from(facility.has_segment_without_capacity());
         self.remainder += u64::from(facility.remainders().iter().any(|&remainder| remainder > 0));
+        self.part_feet.add(reports().map(|report| report.part_feet).max().unwrap_or_default());
         for report in reports() {
             *self.letters.entry(report.letter).or_default() += 1;
         }
@@ -55,6 +74,10 @@ impl Tally {
         println!("  {} with a closed lane, {} with a segment above its jam", self.closed_lane, self.above_jam);
         println!("  {} with a segment whose open lanes have no capacity", self.no_capacity);
         println!("  {} with a remainder", self.remainder);
+        let PartFeet { above_zero, above_32_bits, most } = self.part_feet;
+        println!(
+            "  {above_zero} with part-feet above 0, {above_32_bits} with a segment's above 32 bits, at most {most}"
+        );
         let letters = self.letters.iter().map(|(&letter, count)| format!("{} {count}", char::from(letter)));
         println!("  segments by letter: {}", letters.collect::<Vec<_>>().join(", "));
         print_refused(&self.refused);
@@ -75,7 +98,7 @@ pub fn run(seed: u64, count: u64) -> bool {
     let equal = each(seed, count, layout, |made, study| {
         let run = model::run(study);
         same(study, &model::outcome(&run))?;
-        engine::refuses_short_buffer(study, (made % 200) as usize)?;
+        engine::refuses_short_buffer(study, made as usize % NUMBERS)?;
         tally.add(&run);
         Ok(())
     });

@@ -24,7 +24,7 @@ pub fn single_steps(road: &[u8], period: &[u8], periods: u32) -> u64 {
     unsafe { freeway_time_steps(road.as_ptr(), road.len(), period.as_ptr(), period.len(), periods) }
 }
 
-/// Runs a study: fills the first 200 places of `out` and gives the refusal's number, 0 for none.
+/// Runs a study: fills the first 265 places of `out` and gives the refusal's number, 0 for none.
 pub fn forecast(study: &[u8], out: &mut [u64]) -> u64 {
     // Sound: both slices are valid for their lengths, and the engine keeps neither.
     unsafe { freeway_forecast(study.as_ptr(), study.len(), out.as_mut_ptr(), out.len()) }
@@ -33,21 +33,21 @@ pub fn forecast(study: &[u8], out: &mut [u64]) -> u64 {
 /// What `out` holds before a call, so that a place left unwritten is seen.
 const UNTOUCHED: u64 = 0xA5A5_5A5A_0F0F_F0F0;
 
-/// The 200 numbers for a study; or what in the call itself broke the interface's promises.
+/// The 265 numbers for a study; or what in the call itself broke the interface's promises.
 pub fn numbers(study: &[u8]) -> Result<[u64; NUMBERS], String> {
     let mut out = [UNTOUCHED; NUMBERS + 3];
     let returned = forecast(study, &mut out);
     let (numbers, past) = out.split_at(NUMBERS);
     if past.iter().any(|&number| number != UNTOUCHED) {
-        return Err("the engine wrote past the 200th number".into());
+        return Err(format!("the engine wrote past number {NUMBERS}"));
     }
     if returned != numbers[0] {
         return Err(format!("the engine returned {returned} and wrote {} as the refusal", numbers[0]));
     }
-    Ok(numbers.try_into().expect("200 numbers"))
+    Ok(numbers.try_into().expect("as many as there are"))
 }
 
-/// Tries a buffer of `places` below 200, which must be refused by 7 and left as it was.
+/// Tries a buffer of `places` below 265, which must be refused by 7 and left as it was.
 pub fn refuses_short_buffer(study: &[u8], places: usize) -> Result<(), String> {
     let mut out = [UNTOUCHED; NUMBERS];
     let returned = forecast(study, &mut out[..places]);

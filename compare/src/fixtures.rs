@@ -4,8 +4,8 @@
 //! NAME.study and NAME.listing are a study's bytes and what `forecast` prints. NAME.trace has steps of that study: a line `period`
 //! with a sheet's numbers, then the state, the flows and the remainders after each of the first steps under it; the next sheet goes
 //! on from there.
-//! A .txt file is a list of calls on one road, a line each, `call arguments -> answer`, where a report ends with its totals; or of
-//! conversions, `to-second STUDY room BYTES -> ok CONVERTED` or `-> refused NUMBER PLACE`, and `to-first` as well.
+//! A .txt file is a list of calls on one road, a line each, `call arguments -> answer`, where a report ends with its totals and
+//! part-feet; or of conversions, `to-second STUDY room BYTES -> ok CONVERTED` or `-> refused NUMBER PLACE`, and `to-first` as well.
 //!
 //! Files of a folder named `first` are of the first layout and by the first rules; their names stand by themselves. So do those of a
 //! folder named `planning`, whose .txt files are planning sheets, as in the module of plans.

@@ -1,5 +1,6 @@
 //! The engine's job in idiomatic Rust: what the engine is timed against. Each rule is a method by its closed form, a step is
-//! one pass over the segments, every cell keeps the last step's flows and the totals for reports; nothing is tuned beyond that.
+//! one pass over the segments, every cell keeps the last step's flows, the totals and the part-feet for reports; nothing is tuned
+//! beyond that.
 
 use crate::model::sheets::{read_period, read_road, Entry, Period, Refusal, Road, Segment};
 use crate::outcome::{Forecast, Outcome, Standing};
@@ -38,7 +39,7 @@ fn run(study: &[u8]) -> Result<Facility, Refusal> {
     Ok(facility)
 }
 
-/// A segment's state, with the last step's flows and both totals as a report would show them.
+/// A segment's state, with the last step's flows, both totals and the part-feet as a report would show them.
 #[derive(Clone, Copy, Default)]
 #[allow(dead_code)]
 struct Cell {
@@ -51,6 +52,7 @@ struct Cell {
     remainder: u64,
     total_off: u64,
     total_out: u64,
+    part_feet: u64,
 }
 
 #[derive(Clone, Copy)]
@@ -165,6 +167,7 @@ impl Facility {
                 remainder: due % 1000,
                 total_off: cell.total_off + due / 1000,
                 total_out: cell.total_out + out,
+                part_feet: cell.part_feet + out * segment.length,
             };
             left += due / 1000;
             inflow = ahead;
@@ -180,12 +183,14 @@ impl Facility {
             n: cell.n,
             q: cell.q,
             letter: letter(cell.n, segment.length * segment.lanes),
+            part_feet: cell.part_feet,
         };
         Forecast {
             arrived: self.arrived,
             left: self.left,
             stored: self.cells.iter().map(|cell| cell.n + cell.q).sum::<u64>() + self.origin,
             part_steps: self.part_steps,
+            part_feet: self.cells.iter().map(|cell| cell.part_feet).sum(),
             origin: self.origin,
             segments: self.open_road.segments.iter().zip(&self.cells).map(standing).collect(),
         }

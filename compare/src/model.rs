@@ -1,6 +1,6 @@
 //! A model of documents 01 and 02 (Q-1, closed lanes; Q-2, conversion; Q-3, the split's remainder; Q-4, the off-ramp's total; Q-5,
-//! a sheet repeated by no bytes; Q-6, no section faster than free flow), written from the documents alone and for reading, not for
-//! speed.
+//! a sheet repeated by no bytes; Q-6, no section faster than free flow; Q-7, part-feet), written from the documents alone and for
+//! reading, not for speed.
 
 pub mod convert;
 pub mod facility;
@@ -42,13 +42,14 @@ fn forecast_of<E: Layout>(facility: &Facility<E>) -> Forecast {
     let totals = facility.totals();
     let segments = (1..=facility.segments()).map(|i| {
         let report = facility.report(i).expect("the segment is there");
-        Standing { n: report.n, q: report.q, letter: report.letter }
+        Standing { n: report.n, q: report.q, letter: report.letter, part_feet: report.part_feet }
     });
     Forecast {
         arrived: totals.arrived,
         left: totals.left,
         stored: totals.stored,
         part_steps: totals.part_steps,
+        part_feet: totals.part_feet,
         origin: facility.origin(),
         segments: segments.collect(),
     }
@@ -57,7 +58,6 @@ fn forecast_of<E: Layout>(facility: &Facility<E>) -> Forecast {
 #[cfg(test)]
 mod tests {
     use super::*;
-    use crate::random;
 
     const WORKED: [u8; 22] = [
         0x01, 0xBE, 0x01, 0x2D, 0x07, 0xA8, 0x0A, 0x02, 0x3C, 0xB0, 0x22, 0x00, 0x00, 0x00, // the road
@@ -66,8 +66,32 @@ mod tests {
 
     #[test]
     fn the_papers_study() {
-        let listing = "arrived 288000\nleft 241736\nstored 46264\npartsteps 1522988\norigin 42172\n1 4092 0 D\n";
+        let listing = "arrived 288000\nleft 241736\nstored 46264\npartsteps 1522988\norigin 42172\n\
+                       1 4092 0 D 319091520\npartfeet 319091520\n";
         assert_eq!(forecast(&WORKED).listing(), listing);
+    }
+
+    #[test]
+    fn the_papers_study_as_numbers() {
+        let numbers = forecast(&WORKED).numbers();
+        let told = [0, 0, 1, 288_000, 241_736, 46_264, 1_522_988, 319_091_520, 42_172, 4_092, 0, 68, 319_091_520];
+        assert_eq!((numbers.len(), &numbers[..told.len()]), (265, &told[..]));
+        assert!(numbers[told.len()..].iter().all(|&number| number == 0));
+    }
+
+    #[test]
+    fn a_road_alone_has_no_part_feet() {
+        let road = &[&[3, 190, 45, 7][..], &[1_320, 2, 60, 4_400, 900, 20, 900].repeat(3)].concat();
+        let listing =
+            "arrived 0\nleft 0\nstored 0\npartsteps 0\norigin 0\n1 0 0 A 0\n2 0 0 A 0\n3 0 0 A 0\npartfeet 0\n";
+        assert_eq!(forecast(&sheets::written(road)).listing(), listing);
+    }
+
+    #[test]
+    fn a_refused_study_has_no_part_feet() {
+        let refused = forecast(&WORKED[..WORKED.len() - 1]);
+        assert_eq!(refused.listing(), "refused 1 21\n");
+        assert!(refused.numbers()[2..].iter().all(|&number| number == 0));
     }
 
     #[test]
@@ -98,51 +122,6 @@ mod tests {
         assert_eq!(Facility::<Entry>::lay(&road).unwrap().0.remainders(), [0]);
     }
 
-    /// Q-4: of all that left a segment so far, the off-ramp has exactly its share, rounded down, and the remainder is the rest.
-    fn totals_are_exact(facility: &Facility) {
-        let segments = facility.road().segments.iter().zip(facility.remainders());
-        for (i, (segment, &remainder)) in (1..).zip(segments) {
-            let report = facility.report(i).unwrap();
-            let due = report.total_y * segment.share;
-            assert_eq!((report.total_off, remainder), (due / 1000, due % 1000));
-        }
-    }
-
-    /// Makes a period's steps one by one, the totals looked at after each.
-    fn run_with_exact_totals(facility: &mut Facility) {
-        for _ in 0..60 {
-            facility.run(1).unwrap();
-            totals_are_exact(facility);
-        }
-    }
-
-    /// Runs a study as far as its sheets are accepted, and the last of them once more.
-    fn run_and_repeated(study: &[u8]) -> Option<Facility> {
-        let (mut facility, mut start) = Facility::<Entry>::lay(study).ok()?;
-        while start < study.len() {
-            let Ok(used) = facility.take(&study[start..]) else { break };
-            run_with_exact_totals(&mut facility);
-            start += used;
-        }
-        if facility.take(&[]).is_ok() {
-            run_with_exact_totals(&mut facility);
-        }
-        Some(facility)
-    }
-
-    #[test]
-    fn an_off_ramps_total_is_exact_after_each_step() {
-        let (mut runs, mut with_remainder) = (0, 0);
-        // every style is among so many
-        for study in (0..1_000).map(|seed| random::study(seed, random::Layout::OFTEN_CLOSED)) {
-            if let Some(facility) = run_and_repeated(&study).filter(|facility| facility.periods() > 2) {
-                runs += 1;
-                with_remainder += usize::from(facility.remainders().iter().any(|&remainder| remainder > 0));
-            }
-        }
-        assert!(runs > 300 && with_remainder > 200, "{runs} runs over periods, {with_remainder} with a remainder");
-    }
-
     /// One part leaves a step, but for the first, and 333 of 1,000 take the off-ramp.
     #[test]
     fn totals_go_on_over_a_periods_end() {
@@ -155,5 +134,31 @@ mod tests {
             let report = facility.report(1).unwrap();
             assert_eq!((report.total_off, report.total_y), (total_off, total_y));
         }
+    }
+
+    /// What takes the off-ramp travels the segment too, under every sheet, with lanes closed, reopened, and under no new one.
+    #[test]
+    fn part_feet_go_on_over_a_periods_end() {
+        let road = sheets::written(&[1, 190, 45, 7, 300, 2, 60, 2_000, 0, 333, 10]);
+        let [open, closed] = [2, 1].map(|lanes| sheets::written(&[1, 1, 20_000, 0, 0, lanes]));
+        let (mut facility, _) = Facility::<Entry>::lay(&road).unwrap();
+        for (sheet, left) in [(&open[..], 59), (&closed[..], 119), (&[], 179), (&open[..], 239)] {
+            facility.take(sheet).unwrap();
+            facility.run(60).unwrap();
+            let part_feet = (facility.report(1).unwrap().part_feet, facility.totals().part_feet);
+            assert_eq!(part_feet, (left * 300, left * 300));
+        }
+    }
+
+    /// The longest segment over all periods: 20,000 parts leave it in every step, once it is full enough.
+    #[test]
+    fn the_most_part_feet() {
+        let road = sheets::written(&[1, 300, 60, 0, 26_400, 8, 85, 20_000, 0, 0, 0]);
+        let day = sheets::written(&[1, 20_000, 20_000, 0, 0, 8]).repeat(96);
+        let Outcome::Forecast(forecast) = forecast(&[road, day].concat()) else { panic!("the study is refused") };
+        // 282,339 parts stay, the fewest of which 20,000 reach the end in a step
+        assert_eq!((forecast.arrived, forecast.stored), (115_200_000, 282_339));
+        assert_eq!(forecast.part_feet, (115_200_000 - 282_339) * 26_400);
+        assert_eq!(forecast.segments[0].part_feet, 3_033_826_250_400);
     }
 }

@@ -2,8 +2,12 @@
 
 use std::fmt::Write;
 
+const MOST_SEGMENTS: usize = 64;
+const NUMBERS_OF_THE_STUDY: usize = 9;
+const NUMBERS_OF_A_SEGMENT: usize = 4;
+
 /// How many numbers the engine's interface gives.
-pub const NUMBERS: usize = 200;
+pub const NUMBERS: usize = NUMBERS_OF_THE_STUDY + NUMBERS_OF_A_SEGMENT * MOST_SEGMENTS;
 
 #[derive(Clone, Debug, PartialEq, Eq)]
 pub enum Outcome {
@@ -21,16 +25,18 @@ pub struct Forecast {
     pub left: u64,
     pub stored: u64,
     pub part_steps: u64,
+    pub part_feet: u64,
     pub origin: u64,
     pub segments: Vec<Standing>,
 }
 
-/// How a segment stands after the last step: parts in it, parts in its ramp's queue, level letter.
+/// How a segment stands after the last step: parts in it, parts in its ramp's queue, level letter, its part-feet so far.
 #[derive(Clone, Debug, PartialEq, Eq)]
 pub struct Standing {
     pub n: u64,
     pub q: u64,
     pub letter: u8,
+    pub part_feet: u64,
 }
 
 impl Outcome {
@@ -48,9 +54,11 @@ impl Outcome {
                 numbers[4] = forecast.left;
                 numbers[5] = forecast.stored;
                 numbers[6] = forecast.part_steps;
-                numbers[7] = forecast.origin;
-                for (three, segment) in numbers[8..].chunks_mut(3).zip(&forecast.segments) {
-                    three.copy_from_slice(&[segment.n, segment.q, segment.letter.into()]);
+                numbers[7] = forecast.part_feet;
+                numbers[8] = forecast.origin;
+                let places = numbers[NUMBERS_OF_THE_STUDY..].chunks_mut(NUMBERS_OF_A_SEGMENT);
+                for (places, segment) in places.zip(&forecast.segments) {
+                    places.copy_from_slice(&[segment.n, segment.q, segment.letter.into(), segment.part_feet]);
                 }
             }
         }
@@ -68,9 +76,10 @@ impl Outcome {
             forecast.arrived, forecast.left, forecast.stored, forecast.part_steps, forecast.origin
         );
         for (i, segment) in forecast.segments.iter().enumerate() {
-            let letter = char::from(segment.letter);
-            let _ = writeln!(text, "{} {} {} {letter}", i + 1, segment.n, segment.q);
+            let Standing { n, q, letter, part_feet } = segment;
+            let _ = writeln!(text, "{} {n} {q} {} {part_feet}", i + 1, char::from(*letter));
         }
+        let _ = writeln!(text, "partfeet {}", forecast.part_feet);
         text
     }
 }

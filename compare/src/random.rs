@@ -84,6 +84,9 @@ enum Style {
     Edges,
     /// Nearly everything as large as it may be, which gives the largest sums.
     Full,
+    /// As much as can be through the longest segments, mostly without a drop, an off-ramp or a closed lane: over a day the most
+    /// part-feet.
+    Largest,
     /// Each field by another of these.
     Mixed,
 }
@@ -134,7 +137,7 @@ impl Fields {
     /// Adds a field; `usual` and `small` are the ranges of two of the styles.
     fn add(&mut self, (low, high): (u64, u64), usual: (u64, u64), small: (u64, u64)) -> u64 {
         let mut style = self.style;
-        if style == Style::Mixed || self.random.chance(3) {
+        if style == Style::Mixed || style != Style::Largest && self.random.chance(3) {
             style = self.random.pick(&[Style::Usual, Style::Small, Style::Uniform, Style::Edges, Style::Full]);
         }
         let value = match style {
@@ -145,6 +148,7 @@ impl Fields {
             Style::Light => self.random.within(small.0, small.1),
             Style::Uniform => self.random.within(low, high),
             Style::Full => self.random.pick(&[low, high - 1, high, high, high]),
+            Style::Largest => high - u64::from(self.random.chance(10)),
             _ => self.random.pick(&[low, low, low + 1, 127, 128, 16_383, 16_384, high - 1, high, high]),
         };
         let value = value.clamp(low, high);
@@ -170,7 +174,12 @@ impl Fields {
         self.fixed(ns, 1, 64);
         self.add((100, 300), (180, 210), (100, 300));
         self.add((30, 60), (40, 48), (30, 60));
-        self.add((0, 50), (0, 12), (0, 50));
+        if self.style == Style::Largest && self.random.chance(70) {
+            // a drop would halve what comes in from a queue
+            self.fixed(0, 0, 50);
+        } else {
+            self.add((0, 50), (0, 12), (0, 50));
+        }
         for _ in 0..ns {
             self.add((300, 26_400), (300, 4_000), (300, 700));
             let lanes = self.add((1, 8), (2, 4), (1, 8));
@@ -184,13 +193,17 @@ impl Fields {
 
     /// Adds a segment's off-ramp, its share and its capacity: often odd ones in light traffic, now and then elsewhere.
     fn off_ramp(&mut self) {
-        let percent = if self.style == Style::Light { 60 } else { 10 };
-        if self.random.chance(percent) {
+        let (odd, none) = match self.style {
+            Style::Light => (60, 40),
+            Style::Largest => (10, 80),
+            _ => (10, 40),
+        };
+        if self.random.chance(odd) {
             let (share, capacity) = (self.random.pick(&ODD_SHARES), self.random.pick(&OFF_CAPACITIES));
             self.fixed(share, 0, 1_000);
             self.fixed(capacity, 0, 10_000);
         } else {
-            self.add_or_zero(40, (0, 1_000), (20, 300), (0, 1_000));
+            self.add_or_zero(none, (0, 1_000), (20, 300), (0, 1_000));
             self.add((0, 10_000), (100, 2_000), (0, 12));
         }
     }
@@ -204,6 +217,7 @@ impl Fields {
         self.add((0, 20_000), if open { (12_000, 20_000) } else { (1_000, 6_000) }, (0, 60));
         let closing = match self.layout {
             Layout::First => None,
+            Layout::Second { .. } if self.style == Style::Largest && self.random.chance(98) => Some(0),
             Layout::Second { closing } => Some(self.random.pick(closing)),
         };
         for i in 0..ns as usize {
@@ -273,7 +287,8 @@ pub fn study(seed: u64, layout: Layout) -> Vec<u8> {
         fields.period(ns);
     }
     match fields.random.within(1, 100) {
-        1..=55 => fields.bytes(),
+        1..=54 => fields.bytes(),
+        55 => most_part_feet(layout, &mut fields.random),
         56..=58 => letter_limits(ns, layout, &mut fields.random),
         59..=66 => out_of_range(&mut fields),
         67..=74 => bad_form(&mut fields),
@@ -308,6 +323,17 @@ fn periods(random: &mut Random, ns: u64) -> u64 {
         998..=1000 => random.within(95, 97),
         _ => 1,
     }
+}
+
+/// Mostly a whole day, on a short road of the longest segments.
+fn most_part_feet(layout: Layout, random: &mut Random) -> Vec<u8> {
+    let mut fields = Fields::new(random.split(), layout, Style::Largest);
+    let ns = random.within(1, 3);
+    fields.road(ns);
+    for _ in 0..random.pick(&[1, 10, 95, 96, 96, 96]) {
+        fields.period(ns);
+    }
+    fields.bytes()
 }
 
 /// Segments that nobody can leave, each filled by its ramp in one period to a letter's limit, or just short of it, or just past it.

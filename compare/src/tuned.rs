@@ -4,7 +4,8 @@
 //! depends on the open lanes when their number changes. A step is one pass over the segments, the two "largest y" are
 //! closed forms, and no division but by constants is made whose result is known beforehand, nor one for the remainder after the
 //! step. Off(y) is always formed, by a product and a constant division, also where there is no share. A segment's two totals are
-//! two additions where it lets out; of the last step's flows nothing is kept.
+//! two additions where it lets out; its part-feet are worked out once a period, by what left in it and the length in force. Of the
+//! last step's flows nothing is kept.
 
 use crate::outcome::{Forecast, Outcome, Standing};
 use std::hint::black_box;
@@ -138,6 +139,9 @@ struct Segment {
     remainder: u64,
     total_off: u64,
     total_y: u64,
+    // of the periods before
+    y_before: u64,
+    part_feet_before: u64,
 }
 
 /// A segment whose outflow waits for the next node's.
@@ -175,6 +179,7 @@ impl Facility {
         self.exit_capacity = reader.field(0..=20_000)?;
         self.arriving = self.mainline_demand;
         for segment in &mut self.segments {
+            segment.end_period();
             segment.ramp_demand = reader.field(0..=10_000)?;
             segment.ramp_limit = reader.field(0..=10_000)?.min(segment.ramp_capacity);
             let open = reader.field(1..=segment.lanes)?;
@@ -221,6 +226,7 @@ impl Facility {
             left: self.left,
             stored: self.segments.iter().map(|s| s.n + s.q).sum::<u64>() + self.origin,
             part_steps: self.part_steps,
+            part_feet: self.segments.iter().map(Segment::part_feet).sum(),
             origin: self.origin,
             segments: self.segments.iter().map(Segment::standing).collect(),
         }
@@ -257,6 +263,8 @@ impl Segment {
             remainder: 0,
             total_off: 0,
             total_y: 0,
+            y_before: 0,
+            part_feet_before: 0,
         };
         segment.open_lanes(lanes, common);
         Ok(segment)
@@ -330,13 +338,23 @@ impl Segment {
         }
     }
 
+    /// Adds the part-feet of the period that ends to those of the periods before.
+    fn end_period(&mut self) {
+        self.part_feet_before = self.part_feet();
+        self.y_before = self.total_y;
+    }
+
+    fn part_feet(&self) -> u64 {
+        self.part_feet_before + (self.total_y - self.y_before) * self.length
+    }
+
     /// How the segment stands, what its off-ramp got in all, and all that left.
     fn report(&self) -> (Standing, u64, u64) {
         (self.standing(), self.total_off, self.total_y)
     }
 
     fn standing(&self) -> Standing {
-        Standing { n: self.n, q: self.q, letter: self.letter() }
+        Standing { n: self.n, q: self.q, letter: self.letter(), part_feet: self.part_feet() }
     }
 
     fn letter(&self) -> u8 {

@@ -27,9 +27,10 @@ static void print_listing(const uint64_t *out)
     printf("partsteps %" PRIu64 "\n", out[FREEWAY_PART_STEPS]);
     printf("origin %" PRIu64 "\n", out[FREEWAY_ORIGIN]);
     for (uint64_t i = 0; i < out[FREEWAY_SEGMENTS]; i++) {
-        printf("%" PRIu64 " %" PRIu64 " %" PRIu64 " %c\n", i + 1, out[FREEWAY_PARTS(i)], out[FREEWAY_QUEUE(i)],
-               (char)out[FREEWAY_LETTER(i)]);
+        printf("%" PRIu64 " %" PRIu64 " %" PRIu64 " %c %" PRIu64 "\n", i + 1, out[FREEWAY_PARTS(i)], out[FREEWAY_QUEUE(i)],
+               (char)out[FREEWAY_LETTER(i)], out[FREEWAY_PART_FEET_OF(i)]);
     }
+    printf("partfeet %" PRIu64 "\n", out[FREEWAY_PART_FEET]);
 }
 
 int main(void)

@@ -1,7 +1,7 @@
 //! The comparison of lists of calls: random lists on random roads, each call answered by the program `calls` and by the model.
 
-use super::print_refused;
 use super::program::Program;
+use super::{print_refused, PartFeet};
 use crate::calls::{told, Answer, Call, Player};
 use crate::model::facility::{Facility, MOST_PERIODS};
 use crate::model::sheets::Refusal;
@@ -28,6 +28,8 @@ struct Tally {
     repeats: Repeats,
     off: u64,
     undivided: u64,
+    /// Of each accepted report.
+    part_feet: PartFeet,
 }
 
 /// How many takings of no bytes, which repeat the sheet in force, came to what.
@@ -79,6 +81,7 @@ impl Tally {
                 let off = report.total_off > 0;
                 self.off += u64::from(off);
                 self.undivided += u64::from(off && report.total_y * share % 1000 > 0);
+                self.part_feet.add(report.part_feet);
             }
             _ => {}
         }
@@ -92,7 +95,9 @@ impl Tally {
         }
         self.repeats.print();
         println!("of the accepted reports {} have a total-off above 0;", self.off);
-        println!("  of these {} a total-y whose share is no whole number of parts", self.undivided);
+        println!("  of these {} a total-y whose share is no whole number of parts;", self.undivided);
+        let PartFeet { above_zero, above_32_bits, most } = self.part_feet;
+        println!("  {above_zero} have part-feet above 0, {above_32_bits} of these above 32 bits, at most {most}");
         print_refused(&self.refused);
     }
 }
@@ -176,12 +181,26 @@ mod tests {
 
     const REPEATED: Line = ("take -", "ok used 0");
 
-    #[test]
-    fn random_lists_repeat_sheets() {
-        let (mut tally, mut seeds, mut lists) = (Tally::default(), Random::new(1), Vec::new());
+    /// Lists of 20,000 random calls.
+    fn random_lists() -> (Vec<Played>, Tally) {
+        let (mut lists, mut tally, mut seeds) = (Vec::new(), Tally::default(), Random::new(1));
         while calls_of(&lists) < 20_000 {
             lists.extend(played(&mut seeds, CALLS_OF_A_PROCESS, &mut tally));
         }
+        (lists, tally)
+    }
+
+    #[test]
+    fn random_lists_report_part_feet() {
+        let (_, tally) = random_lists();
+        let PartFeet { above_zero, above_32_bits, most } = tally.part_feet;
+        assert!(above_zero > 1_000 && above_32_bits > 200, "{above_zero} above 0, {above_32_bits} above 32 bits");
+        assert!(most > 2_000_000_000_000, "at most {most}");
+    }
+
+    #[test]
+    fn random_lists_repeat_sheets() {
+        let (lists, tally) = random_lists();
         let Repeats { accepted, closed_lane, refused } = tally.repeats;
         assert!(accepted > 400 && closed_lane > 150, "{accepted} repeats, {closed_lane} with a closed lane");
         assert_eq!(refused.into_keys().collect::<Vec<_>>(), [9, 10, 12, 13]);

@@ -18,6 +18,8 @@ pub struct Facility<E = Entry> {
     total_off: Vec<u64>,
     /// All that left each segment, the sum of their y.
     total_y: Vec<u64>,
+    /// Each segment's part-feet, the sum of every step's own y x L.
+    part_feet: Vec<u64>,
     /// The sheet in force with the steps made under it.
     in_force: Option<(Period<E>, u64)>,
     taken: u64,
@@ -39,6 +41,8 @@ pub struct Report {
     pub total_off: u64,
     /// All y since the laying
     pub total_y: u64,
+    /// All y x L since the laying
+    pub part_feet: u64,
 }
 
 #[derive(Clone, Debug)]
@@ -47,6 +51,8 @@ pub struct Totals {
     pub left: u64,
     pub stored: u64,
     pub part_steps: u64,
+    /// Those of all segments
+    pub part_feet: u64,
 }
 
 impl<E: Layout> Facility<E> {
@@ -61,6 +67,7 @@ impl<E: Layout> Facility<E> {
             last: Flows::none(ns),
             total_off: vec![0; ns],
             total_y: vec![0; ns],
+            part_feet: vec![0; ns],
             in_force: None,
             taken: 0,
             arrived: 0,
@@ -123,6 +130,7 @@ impl<E: Layout> Facility<E> {
             self.part_steps += self.arrived - self.left;
             add(&mut self.total_off, &self.last.off);
             add(&mut self.total_y, &self.last.y);
+            add(&mut self.part_feet, &step::part_feet(&self.road_in_force, &self.last));
             *made += 1;
         }
         Ok(())
@@ -145,6 +153,7 @@ impl<E: Layout> Facility<E> {
             letter: step::letter(segment, self.state.n[i]),
             total_off: self.total_off[i],
             total_y: self.total_y[i],
+            part_feet: self.part_feet[i],
         })
     }
 
@@ -154,7 +163,13 @@ impl<E: Layout> Facility<E> {
     }
 
     pub fn totals(&self) -> Totals {
-        Totals { arrived: self.arrived, left: self.left, stored: self.state.stored(), part_steps: self.part_steps }
+        Totals {
+            arrived: self.arrived,
+            left: self.left,
+            stored: self.state.stored(),
+            part_steps: self.part_steps,
+            part_feet: self.part_feet.iter().sum(),
+        }
     }
 
     /// How many periods were taken, repeats of a sheet too.
@@ -210,10 +225,10 @@ impl<E: Layout> Facility<E> {
     }
 }
 
-/// Adds a step's flows to their sums, segment by segment.
-fn add(sums: &mut [u64], flows: &[u64]) {
-    for (sum, flow) in sums.iter_mut().zip(flows) {
-        *sum += flow;
+/// Adds what a step has to the sums, segment by segment.
+fn add(sums: &mut [u64], step: &[u64]) {
+    for (sum, addend) in sums.iter_mut().zip(step) {
+        *sum += addend;
     }
 }
 
@@ -222,5 +237,107 @@ fn fitting(bytes: Vec<u8>, room: u64, place: u64) -> Result<Vec<u8>, Refusal> {
     match place + bytes.len() as u64 <= room {
         true => Ok(bytes),
         false => Err(Refusal::plain(7)),
+    }
+}
+
+#[cfg(test)]
+mod tests {
+    use super::*;
+    use crate::random::{study, Layout};
+
+    /// So many random studies have all styles among them.
+    fn studies() -> impl Iterator<Item = Vec<u8>> {
+        (0..1_000).map(|seed| study(seed, Layout::OFTEN_CLOSED))
+    }
+
+    /// Makes a period's steps one by one, and looks at the facility before and after each.
+    fn run_step_by_step(facility: &mut Facility, look: &mut impl FnMut(&Facility, &Facility)) {
+        for _ in 0..STEPS_OF_A_PERIOD {
+            let before = facility.clone();
+            facility.run(1).unwrap();
+            look(&before, facility);
+        }
+    }
+
+    /// Runs a study step by step as far as its sheets are accepted, and the last of them once more.
+    fn run_and_repeated(study: &[u8], mut look: impl FnMut(&Facility, &Facility)) -> Option<Facility> {
+        let (mut facility, mut start) = Facility::lay(study).ok()?;
+        while start < study.len() {
+            let Ok(used) = facility.take(&study[start..]) else { break };
+            run_step_by_step(&mut facility, &mut look);
+            start += used;
+        }
+        if facility.take(&[]).is_ok() {
+            run_step_by_step(&mut facility, &mut look);
+        }
+        Some(facility)
+    }
+
+    fn reports(facility: &Facility) -> Vec<Report> {
+        (1..=facility.segments()).map(|i| facility.report(i).unwrap()).collect()
+    }
+
+    /// of all that left a segment so far, the off-ramp has exactly its share, rounded down, and the remainder is the rest.
+    fn totals_are_exact(facility: &Facility) {
+        let segments = facility.road.segments.iter().zip(facility.remainders());
+        for (report, (segment, &remainder)) in reports(facility).iter().zip(segments) {
+            let due = report.total_y * segment.share;
+            assert_eq!((report.total_off, remainder), (due / 1000, due % 1000));
+        }
+    }
+
+    #[test]
+    fn an_off_ramps_total_is_exact_after_each_step() {
+        let (mut runs, mut with_remainder) = (0, 0);
+        for study in studies() {
+            let run = run_and_repeated(&study, |_, after| totals_are_exact(after));
+            if let Some(facility) = run.filter(|facility| facility.taken > 2) {
+                runs += 1;
+                with_remainder += usize::from(facility.remainders().iter().any(|&remainder| remainder > 0));
+            }
+        }
+        assert!(runs > 300 && with_remainder > 200, "{runs} runs over periods, {with_remainder} with a remainder");
+    }
+
+    /// What left each segment in a step, by the states before and after it and the sheet alone: what came in and is not there. Of
+    /// that the off-ramp got what the remainders do not have.
+    fn left_in_step(before: &Facility, after: &Facility) -> Vec<u64> {
+        let (period, _) = after.in_force.as_ref().unwrap();
+        let (old, new) = (&before.state, &after.state);
+        let mut let_in = old.o + period.demand - new.o;
+        let segments = after.road.segments.iter().zip(&period.entries).enumerate();
+        let left = segments.map(|(i, (segment, entry))| {
+            let from_ramp = old.q[i] + entry.ramp_demand - new.q[i];
+            let y = old.n[i] + let_in + from_ramp - new.n[i];
+            let_in = y - (y * segment.share + old.remainder[i] - new.remainder[i]) / 1000;
+            y
+        });
+        left.collect()
+    }
+
+    /// runs a study, its part-feet worked out apart from all that is told, those of each segment and those of all in one sum.
+    fn run_with_part_feet(study: &[u8]) -> Option<Facility> {
+        let (mut by_segment, mut of_all) = (vec![0; 64], 0);
+        run_and_repeated(study, |before, after| {
+            let left = left_in_step(before, after);
+            for ((sum, y), segment) in by_segment.iter_mut().zip(left).zip(&after.road.segments) {
+                *sum += y * segment.length;
+                of_all += y * segment.length;
+            }
+            let told: Vec<u64> = reports(after).iter().map(|report| report.part_feet).collect();
+            assert_eq!(told, by_segment[..told.len()]);
+            assert_eq!((after.totals().part_feet, told.iter().sum::<u64>()), (of_all, of_all));
+        })
+    }
+
+    #[test]
+    fn part_feet_are_the_steps_own_after_each_step() {
+        let runs: Vec<Facility> = studies().filter_map(|study| run_with_part_feet(&study)).collect();
+        let above = |least: u64| runs.iter().filter(|run| run.part_feet.iter().any(|&sum| sum > least)).count();
+        // of a whole day on the longest segments the last
+        let counts = [0, u32::MAX.into(), 3_000_000_000_000].map(above);
+        assert!(counts[0] > 500 && counts[1] > 50 && counts[2] > 0, "runs with more and more part-feet: {counts:?}");
+        let with_closed_lane = runs.iter().filter(|run| run.has_closed_lane() && run.totals().part_feet > 0).count();
+        assert!(with_closed_lane > 100, "{with_closed_lane} with part-feet and a closed lane");
     }
 }

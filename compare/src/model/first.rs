@@ -41,7 +41,8 @@ mod tests {
     fn the_papers_study() {
         let road = [0x01, 0xBE, 0x01, 0x2D, 0x07, 0xA8, 0x0A, 0x02, 0x3C, 0xB0, 0x22, 0x00, 0x00, 0x00];
         let period = [0x01, 0xC0, 0x25, 0x90, 0x4E, 0x00, 0x00];
-        let listing = "arrived 288000\nleft 241736\nstored 46264\npartsteps 1522988\norigin 42172\n1 4092 0 D\n";
+        let listing = "arrived 288000\nleft 241736\nstored 46264\npartsteps 1522988\norigin 42172\n\
+                       1 4092 0 D 319091520\npartfeet 319091520\n";
         assert_eq!(outcome(&run::<Entry>(&[&road[..], &period].concat())).listing(), listing);
     }
 }

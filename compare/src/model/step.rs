@@ -185,6 +185,11 @@ fn flows<E: Layout>(road: &Road, period: &Period<E>, state: &State, splits: &[Sp
     flows
 }
 
+/// The part-feet of a step, segment by segment: all that left, times the segment's length in force.
+pub fn part_feet(road: &Road, flows: &Flows) -> Vec<u64> {
+    road.segments.iter().zip(&flows.y).map(|(segment, y)| y * segment.length).collect()
+}
+
 /// The level letter of a segment that holds n.
 pub fn letter(segment: &Segment, n: u64) -> u8 {
     letter_by(|limit| 22 * n <= limit * segment.length * segment.lanes)

@@ -23,10 +23,15 @@ pub struct List {
 /// Most lists repeat a sheet now and then, some take hardly a new one.
 const REPEATING: [u64; 5] = [5, 15, 25, 25, 80];
 
-/// A road, mostly in light traffic, where off-ramps get less than a part a step; a short one where a whole day is run on it.
+/// A road, mostly in light traffic, where off-ramps get less than a part a step; a short one where a whole day is run on it, in a
+/// quarter of these cases of the longest segments.
 fn road(random: &mut Random, day: bool) -> Fields {
     let ns = if day && random.chance(90) { random.within(1, 6) } else { segments(random) };
-    let style = if random.chance(40) { Style::Light } else { random.pick(&STYLES) };
+    let style = match random.chance(40) {
+        _ if day && random.chance(25) => Style::Largest,
+        true => Style::Light,
+        false => random.pick(&STYLES),
+    };
     let mut road = Fields::new(random.split(), Layout::OFTEN_CLOSED, style);
     road.road(ns);
     road

@@ -48,8 +48,8 @@ fn report<W: Write>(output: &mut W, f: &Facility, rest: &[u8]) -> Option<io::Res
     Some(match facility::report(f, records::only_number(rest)?) {
         Ok(r) => write!(
             output,
-            "ok n {} q {} f {} r {} off {} y {} {} total-off {} total-y {}",
-            r.n, r.q, r.main, r.ramp, r.off, r.out, r.level, r.tally.off, r.tally.out
+            "ok n {} q {} f {} r {} off {} y {} {} total-off {} total-y {} partfeet {}",
+            r.n, r.q, r.main, r.ramp, r.off, r.out, r.level, r.tally.off, r.tally.out, r.partfeet
         ),
         Err(refusal) => say_refused(output, refusal),
     })
@@ -62,8 +62,8 @@ fn totals<W: Write>(output: &mut W, f: &Facility, rest: &[u8]) -> Option<io::Res
     Some(match facility::totals(f) {
         Ok(sums) => write!(
             output,
-            "ok arrived {} left {} stored {} partsteps {}",
-            sums.arrived, sums.left, sums.stored, sums.partsteps
+            "ok arrived {} left {} stored {} partsteps {} partfeet {}",
+            sums.arrived, sums.left, sums.stored, sums.partsteps, sums.partfeet
         ),
         Err(refusal) => say_refused(output, refusal),
     })

@@ -16,10 +16,11 @@ use Rattle.segment.specs.Bounded.{BoundedCell, BoundedTally}
 use Rattle.steps.specs.declared.State.{State}
 use Rattle.steps.specs.Step.{cell_in}
 use Rattle.steps.specs.Tallies.{tally_in}
-use Rattle.steps.specs.Bounded.{Bounded, BoundedTallies}
+use Rattle.steps.specs.Driven.{partfeet_in}
+use Rattle.steps.specs.Bounded.{Bounded, BoundedTallies, BoundedPartfeet}
 use Rattle.door.specs.declared.Facility.{Facility}
 use Rattle.conditions.specs.Conditions.{segments}
-use Rattle.door.specs.Sound.{steps_by, counted, sheeted, cell_bounded, state_bounded, tally_bounded, tallies_bounded, sums_bounded, sound}
+use Rattle.door.specs.Sound.{steps_by, counted, sheeted, cell_bounded, state_bounded, tally_bounded, tallies_bounded, driven_bounded, partfeet_bounded, sums_bounded, sound}
 
 -- the sums after t steps
 pub record BoundedSums (t arrived left partsteps : ℕ) : Type 0 where
@@ -35,6 +36,7 @@ pub record Sound (f : Facility) : Type 0 where
   pub sheet : sheeted f.taken f.road f.period ≡ true
   pub bounds : Bounded (segments f.road) (steps_by f.taken f.made) f.state
   pub tallies : BoundedTallies (segments f.road) (steps_by f.taken f.made) f.tallies
+  pub partfeet : BoundedPartfeet (segments f.road) (steps_by f.taken f.made) f.partfeet
   pub sums : BoundedSums (steps_by f.taken f.made) f.arrived f.left f.partsteps
 
 -- ---- the parts of the test
@@ -79,6 +81,14 @@ pub bounded_tallies : (ns t : ℕ) (tallies : List Tally) → BoundedTallies ns 
 unfolding tallies_bounded
 bounded_tallies ns t tallies b = all_by (λ i. tally_bounded t (tally_in tallies i)) ns (λ i h. bounded_tally t (tally_in tallies i) (b i h))
 
+pub partfeet_bounded_lem : (ns t : ℕ) (partfeet : List ℕ) → partfeet_bounded ns t partfeet ≡ true → BoundedPartfeet ns t partfeet
+unfolding partfeet_bounded driven_bounded
+partfeet_bounded_lem ns t partfeet e = λ i h. omega (arith, leb-true _ _ (all_at (λ i. driven_bounded t (partfeet_in partfeet i)) ns i e h))
+
+pub bounded_partfeet : (ns t : ℕ) (partfeet : List ℕ) → BoundedPartfeet ns t partfeet → partfeet_bounded ns t partfeet ≡ true
+unfolding partfeet_bounded driven_bounded
+bounded_partfeet ns t partfeet b = all_by (λ i. driven_bounded t (partfeet_in partfeet i)) ns (λ i h. le-leb _ _ (b i h))
+
 pub sums_bounded_lem : (t a l p : ℕ) → sums_bounded t a l p ≡ true → BoundedSums t a l p
 unfolding sums_bounded
 sums_bounded_lem t a l p e =
@@ -100,6 +110,7 @@ is_sound f e =
     let c = both (sheeted f.taken f.road f.period) _ b.1 in
     let d = both (state_bounded (segments f.road) (steps_by f.taken f.made) f.state) _ c.1 in
     let g = both (tallies_bounded (segments f.road) (steps_by f.taken f.made) f.tallies) _ d.1 in
+    let p = both (partfeet_bounded (segments f.road) (steps_by f.taken f.made) f.partfeet) _ g.1 in
     record {
       road = a.0;
       few = leb-true _ _ n.0;
@@ -107,13 +118,23 @@ is_sound f e =
       sheet = c.0;
       bounds = state_bounded_lem _ _ _ d.0;
       tallies = tallies_bounded_lem _ _ _ g.0;
-      sums = sums_bounded_lem _ _ _ _ g.1;
+      partfeet = partfeet_bounded_lem _ _ _ p.0;
+      sums = sums_bounded_lem _ _ _ _ p.1;
     }
 
 pub sound_is : (f : Facility) → Sound f → sound f ≡ true
 unfolding sound counted
 sound_is f s =
-    rw (s.road, le-leb _ _ s.few, le-leb _ _ s.short, s.sheet, bounded_state _ _ _ s.bounds, bounded_tallies _ _ _ s.tallies, bounded_sums _ _ _ _ s.sums)
+    rw (
+      s.road,
+      le-leb _ _ s.few,
+      le-leb _ _ s.short,
+      s.sheet,
+      bounded_state _ _ _ s.bounds,
+      bounded_tallies _ _ _ s.tallies,
+      bounded_partfeet _ _ _ s.partfeet,
+      bounded_sums _ _ _ _ s.sums,
+    )
 
 -- what the first two parts say
 pub counts : (taken made : ℕ) → counted taken made ≡ true → (taken ≤ 96) × (made ≤ 60)

@@ -4,14 +4,14 @@
 ghost use Rattle.std.specs.Prelude.{◌≡◌, ◌≤◌, ◌&&◌};
 ghost use Rattle.std.specs.List.{list_all};
 ghost use Rattle.conditions.specs.Conditions.{segments};
-ghost use Rattle.door.specs.Sound.{steps_by, counted, sheeted, cell_bounded, state_bounded, tally_bounded, tallies_bounded, sums_bounded, sound};
+ghost use Rattle.door.specs.Sound.{steps_by, counted, sheeted, cell_bounded, state_bounded, tally_bounded, tallies_bounded, driven_bounded, partfeet_bounded, sums_bounded, sound};
 
 use segment::{Cell, Tally};
 use steps::State;
 
 // Stays: no plainer. That no sheet is in force is told by the count of those taken; an Option for the sheet would tell it twice.
 // A road that is laid, the period sheet in force with the sheets taken so far and the steps made under the last, the state of the
-// step rules, each segment's totals, and the sums: arrived, left and part-steps.
+// step rules, each segment's totals and its part-feet, and the sums: arrived, left and part-steps.
 #[derive(Clone, Copy)]
 pub struct Facility {
     pub road: [u32; 452],
@@ -20,6 +20,7 @@ pub struct Facility {
     pub made: u32,
     pub state: State,
     pub tallies: [Tally; 64],
+    pub partfeet: [u64; 64],
     pub arrived: u64,
     pub left: u64,
     pub partsteps: u64,
@@ -68,6 +69,15 @@ fn are_tallies_bounded(t: u32, tallies: &[Tally]) -> bool
     tallies.iter().all(|tally| is_tally_bounded(t, tally))
 }
 
+// Whether each segment's part-feet are within what t steps can leave.
+#[tactic(auto, unfolding(crate::specs::Sound::driven_bounded))]
+fn are_partfeet_bounded(t: u64, partfeet: &[u64]) -> bool
+    requires { t ≤ 5760 }
+    ensures { result ≡ list_all (driven_bounded t) partfeet.now }
+{
+    partfeet.iter().all(|own| *own <= 528000000 * t)
+}
+
 impl Facility {
     // The steps made so far.
     #[tactic(auto, unfolding(crate::specs::Sound::steps_by))]
@@ -104,18 +114,21 @@ impl Facility {
             & ((self.left <= 660000 * t) & (self.partsteps <= 3801600000 * t))
     }
 
-    // Whether its state, its totals and its sums are within what the steps made so far can leave.
-    #[tactic(auto, using(crate::proofs::Cells::each_tally), unfolding(parts::specs::Parts::road_globals, crate::specs::Sound::tallies_bounded))]
+    // Whether its state, its totals, its part-feet and its sums are within what the steps made so far can leave.
+    #[tactic(auto, unfolding(parts::specs::Parts::road_globals))]
     fn is_bounded(&self) -> bool
         requires { (segments self.now.road ≤ 64) × (self.now.taken ≤ 96) × (self.now.made ≤ 60) }
         ensures { result ≡ (state_bounded (segments self.now.road) (steps_by self.now.taken self.now.made) self.now.state
             && (tallies_bounded (segments self.now.road) (steps_by self.now.taken self.now.made) self.now.tallies
-            && sums_bounded (steps_by self.now.taken self.now.made) self.now.arrived self.now.left self.now.partsteps)) }
+            && (partfeet_bounded (segments self.now.road) (steps_by self.now.taken self.now.made) self.now.partfeet
+            && sums_bounded (steps_by self.now.taken self.now.made) self.now.arrived self.now.left self.now.partsteps))) }
     {
         let t = self.steps();
         let ns = self.road[0] as usize;
         is_state_bounded(ns, t, &self.state)
-            & (are_tallies_bounded(t, &self.tallies[..ns]) & self.are_sums_bounded(u64::from(t)))
+            & (are_tallies_bounded(t, &self.tallies[..ns])
+                & (are_partfeet_bounded(u64::from(t), &self.partfeet[..ns])
+                    & self.are_sums_bounded(u64::from(t))))
     }
 
     // Whether it has what a laying and calls produce; any other is the empty facility.

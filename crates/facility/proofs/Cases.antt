@@ -7,6 +7,7 @@ use Rattle.sheets.specs.Read.{read_period}
 use Rattle.sheets.specs.Write.{row_bytes, road_row, period_row}
 use Rattle.conditions.specs.Conditions.{segments}
 use Rattle.steps.specs.Step.{stored_of}
+use Rattle.steps.specs.Driven.{partfeet_of}
 use Rattle.door.specs.declared.Facility.{Facility}
 use Rattle.door.specs.Sound.{sound}
 use Rattle.facility.specs.Calls.{refused, taken_by, take_of, ran_by, run_of, no_report, reported_by, report_of, no_sums, totals_of, not_written, wrote_bytes, wrote_by, write_road_of, write_period_of}
@@ -58,6 +59,7 @@ module _ (f : Facility) (e : sound f ≡ true) where
     left = f.left;
     stored = stored_of (segments f.road) f.state;
     partsteps = f.partsteps;
+    partfeet = partfeet_of (segments f.road) f.partfeet;
   }
   unfolding totals_of
   totals_sound = rw e

@@ -25,6 +25,7 @@ use Rattle.facility.specs.Statement.{ListStatement, AcceptedRoad, road_of}
 use Rattle.facility.specs.Answers.{take_says, run_says, report_says, totals_say}
 use Rattle.facility.specs.Claims.{Every}
 use Rattle.facility.proofs.Tallies.{OnRoad, tally_at, to_the_part, each_to_the_part}
+use Rattle.facility.proofs.Partfeet.{partfeet_kept_at, driven_summed, kept_driven}
 use Rattle.facility.proofs.Trail.{KeptBook, kept_opened, kept_after}
 use Rattle.facility.specs.View.{view}
 use Rattle.facility.proofs.OneCall.{view_opened, sound_view, takes, runs, reports, sums}
@@ -190,6 +191,9 @@ theorem_from {road} {cs} {xs} {f} {g} at calls =
       tallies = tallies;
       off_ramps = λ i l. rw (tallies i l, shows) (to_the_part road i l trail kept.right kept.chained on_road);
       apportioned = each_to_the_part road trail kept.right kept.chained on_road;
+      partfeet = λ i l. rw (shows, same) (partfeet_kept_at (segments road) trail few i l);
+      driven = rw (shows, same) (kept_driven road trail few on_road);
+      summed_up = driven_summed road trail on_road;
       same_road = ap (λ (x : Facility). x.road) shows ∙ same;
       never_empty = ap sound shows ∙ sound_view (book_after (opened road) cs) h.1.kept_book;
     }

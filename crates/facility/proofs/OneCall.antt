@@ -1,5 +1,5 @@
 -- One call: the facility that shows a book becomes the one that shows the book after the call, and the answer is the ledger's.
-use Prim.Native.Nat.{ℕ, zero, suc, ◌+◌, ◌-◌, ◌≤◌}
+use Prim.Native.Nat.{ℕ, zero, suc, ◌+◌, ◌-◌, ◌≤◌, ◌<◌}
 use mathlib.Core.Bool.{true, false}
 use mathlib.Core.Path.{◌≡◌, refl, ap, ◌∙◌}
 use mathlib.Core.List.{List, ◌∷◌}
@@ -26,11 +26,12 @@ use Rattle.facility.specs.Answers.{take_says, run_says, report_says, totals_say}
 use Rattle.door.proofs.Sound.{sound_is, few_segments}
 use Rattle.running.proofs.InForce.{sheeted_by_some}
 use Rattle.facility.proofs.Tallies.{no_tallies, tally_at, tallies_more}
+use Rattle.facility.proofs.Partfeet.{none_driven, partfeet_kept_at, partfeet_more, kept_driven}
 use Rattle.facility.proofs.Trail.{KeptBook, SheetFits, unsheeted, sheeted_as, cells_more}
 
 pub view_opened : (road : List ℕ) → road_allowed road ≡ true → fresh_on road ≡ view (opened road)
 unfolding fresh_on arrived_in left_in partsteps_in
-view_opened road ok = rw (← no_tallies (segments road) (few_segments road ok))
+view_opened road ok = rw (← no_tallies (segments road) (few_segments road ok), ← none_driven (segments road) (few_segments road ok))
 
 -- the facility has the book's sheet in force
 fits_by : {road : List ℕ} {n : ℕ} {s : SheetInForce} → SheetFits road n s → sheet_by n (row_in s) ≡ s
@@ -57,6 +58,7 @@ sound_view b f = sound_is (view b) (record {
   sheet = fits_sheeted f.sheet;
   bounds = rw (← f.made) f.kept.bounds;
   tallies = rw (← f.made) f.kept.tallies;
+  partfeet = rw (← f.made) f.kept.partfeet;
   sums = rw (← f.made) f.kept.sums;
 })
 
@@ -69,7 +71,9 @@ one : (b : Book) → road_allowed b.road ≡ true → length (state_after b.trai
 unfolding step_of arrived_in left_in partsteps_in
 one b ok long =
     let c = conditions_on (view b) in
-    rw (tallies_more c (segments b.road) b.trail (conditions_segments b.road _) (few_segments b.road ok) long)
+    let n = conditions_segments b.road _ in
+    let few = few_segments b.road ok in
+    rw (tallies_more c (segments b.road) b.trail n few long, partfeet_more c (segments b.road) b.trail n few)
 
 pub steps_view : (b : Book) → KeptBook b → (n : ℕ) → steps_of n (view b) ≡ view (with_steps present n b)
 unfolding steps_of
@@ -124,7 +128,9 @@ reported_by_lem : (b : Book) → KeptBook b → (i : ℕ) (v : Verdict) → ((e 
 unfolding level_at
 reported_by_lem b k i GoesOn h within =
     let w = within refl in
-    rw (in_force_view b k.sheet, tally_at (segments b.road) b.trail (few_segments b.road k.road) (i - 1) (omega (arith, w.0, w.1)))
+    let few = few_segments b.road k.road in
+    let inside : i - 1 < segments b.road = omega (arith, w.0, w.1) in
+    rw (in_force_view b k.sheet, tally_at (segments b.road) b.trail few (i - 1) inside, partfeet_kept_at (segments b.road) b.trail few (i - 1) inside)
 reported_by_lem b k i (RefusedBy e) h within = rw (named e (h e refl))
 
 pub reports : (b : Book) (i : ℕ) → KeptBook b → report_says (report_of (view b) i) ≡ answer b (Report i)
@@ -133,4 +139,4 @@ reports b i f =
     ∙ reported_by_lem b f i (report_verdict b.road i) (report_named b.road i) (report_accepted b.road i)
 
 pub sums : (b : Book) → KeptBook b → totals_say (totals_of (view b)) ≡ answer b Totals
-sums b f = ap totals_say (totals_sound (view b) (sound_view b f))
+sums b f = rw (totals_sound (view b) (sound_view b f), kept_driven b.road b.trail (few_segments b.road f.road) f.kept.on_road)

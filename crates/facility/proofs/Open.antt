@@ -7,7 +7,10 @@ use Rattle.std.specs.Prelude.{if◌then◌else◌}
 use Rattle.parts.specs.Good.{GoodRoad}
 use Rattle.parts.proofs.Good.{good_road}
 use Rattle.door.specs.declared.Facility.{Facility}
-use Rattle.door.specs.Sound.{sound}
+use Rattle.conditions.specs.Conditions.{segments}
+use Rattle.steps.specs.Bounded.{BoundedPartfeet}
+use Rattle.steps.proofs.Driven.{partfeet_longer}
+use Rattle.door.specs.Sound.{steps_by, sound}
 use Rattle.door.proofs.Sound.{Sound, is_sound}
 use Rattle.running.specs.Ready.{Ready}
 use Rattle.facility.specs.Verdicts.{GoesOn, RefusedBy, run_verdict}
@@ -25,6 +28,11 @@ module _ (f : Facility) (goes : GoesOn ≡ (if sound f then GoesOn else RefusedB
 
   pub open_short : f.made ≤ 60
   open_short = open_sound.short
+
+  -- no segment's part-feet are past what all steps can leave
+  pub open_partfeet : BoundedPartfeet (segments f.road) 5760 f.partfeet
+  unfolding steps_by
+  open_partfeet = partfeet_longer _ _ 5760 f.partfeet (omega (arith, open_sound.few, open_short)) open_sound.partfeet
 
   -- and where a run goes on
   pub open_ready : (k : ℕ) → GoesOn ≡ run_verdict f.taken f.made k → Ready f k

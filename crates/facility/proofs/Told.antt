@@ -16,6 +16,7 @@ use Rattle.sheets.proofs.Refusals.{told_road, told_period}
 use Rattle.conditions.specs.Conditions.{segments}
 use Rattle.steps.specs.Step.{cell_in, stored_of}
 use Rattle.steps.specs.Tallies.{tally_in}
+use Rattle.steps.specs.Driven.{partfeet_in, partfeet_of}
 use Rattle.door.specs.declared.Facility.{Facility}
 use Rattle.door.specs.Sound.{sound}
 use Rattle.facility.specs.declared.SegmentReport.{SegmentReport}
@@ -122,7 +123,18 @@ module _ (f : Facility) where
   reported_told : (i : ℕ) (v : Verdict) → ToldVerdict v → (r : Result SegmentReport Refusal) × (report_told r ≡ reported_by f i v)
   reported_told i GoesOn t =
       let c = cell_in f.state (i - 1) in
-      (Ok (record { n = c.n; q = c.q; main = c.main; ramp = c.ramp; off = c.off; out = c.out; level = level_at f (i - 1); tally = tally_in f.tallies (i - 1) }), refl)
+      let report : SegmentReport = record {
+        n = c.n;
+        q = c.q;
+        main = c.main;
+        ramp = c.ramp;
+        off = c.off;
+        out = c.out;
+        level = level_at f (i - 1);
+        tally = tally_in f.tallies (i - 1);
+        partfeet = partfeet_in f.partfeet (i - 1);
+      } in
+      (Ok report, refl)
   reported_told i (RefusedBy number) t = (Err t.0, ap no_report t.1)
 
   report_by_door : (x : Bool) (i : ℕ) (v : Verdict) → ToldVerdict v
@@ -142,4 +154,10 @@ module _ (f : Facility) where
   pub totals_replied : (r : Result Sums Refusal) × (sums_told r ≡ totals_of f)
   unfolding totals_of
   totals_replied =
-      totals_by_door (sound f) (record { arrived = f.arrived; left = f.left; stored = stored_of (segments f.road) f.state; partsteps = f.partsteps })
+      totals_by_door (sound f) (record {
+        arrived = f.arrived;
+        left = f.left;
+        stored = stored_of (segments f.road) f.state;
+        partsteps = f.partsteps;
+        partfeet = partfeet_of (segments f.road) f.partfeet;
+      })

@@ -18,8 +18,10 @@ use Rattle.conditions.specs.Conditions.{Conditions, SheetInForce, None, Under, c
 use Rattle.steps.specs.Step.{cell_in, stepped, fresh_state, arrived_of, left_of, stored_of, sum_to}
 use Rattle.conditions.proofs.Good.{GoodSheet, none as none-sheet, under, good_conditions, conditions_segments}
 use Rattle.steps.specs.Tallies.{tallied}
-use Rattle.steps.specs.Bounded.{Bounded, BoundedTallies}
+use Rattle.steps.specs.Driven.{driven}
+use Rattle.steps.specs.Bounded.{Bounded, BoundedTallies, BoundedPartfeet}
 use Rattle.steps.proofs.Tallies.{tallied_bounded, bounded_fresh as tallies_fresh}
+use Rattle.steps.proofs.Driven.{driven_bounded, partfeet_fresh}
 use Rattle.steps.proofs.Laws.{stepped_length}
 use Rattle.steps.proofs.Bounds.{bounded_after, bounded_fresh, cell_fresh, arrived_most, left_most}
 use Rattle.steps.proofs.Claims.{stepped_holds}
@@ -28,8 +30,9 @@ use Rattle.facility.specs.Ledger.{Call, Take, Run, Report, Totals, Trail, state_
 use Rattle.facility.specs.Verdicts.{Verdict, GoesOn, RefusedBy, as_read, unfinished, run_verdict}
 use Rattle.facility.proofs.Verdicts.{take_cases, run_accepted}
 use Rattle.facility.specs.Claims.{Every, none, and, Chained, start, link, Right, Balanced, nothing, still}
-use Rattle.facility.specs.View.{tallies_of}
+use Rattle.facility.specs.View.{tallies_of, partfeet_kept}
 use Rattle.facility.proofs.Tallies.{OnRoad, on_road, no_tallies, tallies_more}
+use Rattle.facility.proofs.Partfeet.{none_driven, partfeet_more}
 use Rattle.door.proofs.Sound.{BoundedSums, few_segments}
 
 -- the invariant of a trail on a road: its steps are right and made on that road, and what it leaves is bounded
@@ -41,6 +44,7 @@ pub record KeptTrail (road : List ℕ) (t : Trail) : Type 0 where
   pub cells : length (state_after t).cells ≡ 64
   pub bounds : Bounded (segments road) (length t) (state_after t)
   pub tallies : BoundedTallies (segments road) (length t) (tallies_of (segments road) t)
+  pub partfeet : BoundedPartfeet (segments road) (length t) (partfeet_kept (segments road) t)
   pub balance : arrived_in t ≡ left_in t + stored_of (segments road) (state_after t)
   pub sums : BoundedSums (length t) (arrived_in t) (left_in t) (partsteps_in t)
 
@@ -72,6 +76,7 @@ module _ (road : List ℕ) (good : GoodRoad road) where
       let balance : arrived_in t + arrived_of c ≡ left_in t + left_of c.segments (stepped c state) + stored_of c.segments (stepped c state) =
       omega (arith, holds.balanced) in
       let counted = tallied_bounded c state (tallies_of (segments road) t) force bounds (rw n k.tallies) in
+      let feet = driven_bounded c state long (length t) (partfeet_kept (segments road) t) force (rw n k.partfeet) in
       record {
         right = and holds k.right;
         on_road = and (on_road road sheet t) k.on_road;
@@ -81,6 +86,8 @@ module _ (road : List ℕ) (good : GoodRoad road) where
         bounds = rw (← add-one (length t)) (subst (λ (m : ℕ). Bounded m (length t + 1) (stepped c state)) n (bounded_after c state force bounds));
         tallies = rw (← add-one (length t), ← tallies_more c (segments road) t n good.segments.1 k.cells)
             (subst (λ (m : ℕ). BoundedTallies m (length t + 1) (tallied c state (tallies_of (segments road) t))) n counted);
+        partfeet = rw (← add-one (length t), ← partfeet_more c (segments road) t n good.segments.1)
+            (subst (λ (m : ℕ). BoundedPartfeet m (length t + 1) (driven c (stepped c state) (partfeet_kept (segments road) t))) n feet);
         balance = subst (λ (m : ℕ). arrived_in t + arrived_of c ≡ left_in t + left_of c.segments (stepped c state) + stored_of m (stepped c state)) n balance;
         sums = record {
           arrived_most = omega (arith, s.arrived_most);
@@ -126,6 +133,7 @@ kept_fresh road few = record {
   cells = refl;
   bounds = bounded_fresh (segments road);
   tallies = rw (← no_tallies (segments road) few) (tallies_fresh (segments road));
+  partfeet = rw (← none_driven (segments road) few) (partfeet_fresh (segments road) 0);
   balance = omega (arith, zeros (λ i. (cell_in fresh_state i).n + (cell_in fresh_state i).q) (segments road) (λ i. ap (λ (c : Cell). c.n + c.q) (cell_fresh i)));
   sums = record { arrived_most = omega arith; left_most = omega arith; partsteps_most = omega arith };
 }

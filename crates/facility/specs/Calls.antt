@@ -1,5 +1,5 @@
--- Document 01, "Calls on a facility", and document 02, Q-4, the report's totals, and Q-5, the sheet in force once more: what each call gives, as a
--- whole, refused or not; beside a refusal the facility as it came.
+-- Document 01, "Calls on a facility", and document 02, Q-4, the report's totals, Q-5, the sheet in force once more, and Q-7, part-feet: what each call
+-- gives, as a whole, refused or not; beside a refusal the facility as it came.
 use Rattle.std.specs.Prelude.{ℕ, ◌+◌, ◌-◌, List, replicate, if◌then◌else◌}
 use Rattle.numbers.specs.Writing.{Writing, Refused, write_answer, write_into}
 use Rattle.numbers.specs.Row.{Rows, ReadRow, RefusedAt}
@@ -13,6 +13,7 @@ use Rattle.letters.specs.declared.Level.TheVariants.{A}
 use Rattle.conditions.specs.Conditions.{in_force_at, segments}
 use Rattle.steps.specs.Step.{cell_in, fresh_state, stored_of}
 use Rattle.steps.specs.Tallies.{fresh_tallies, tally_in}
+use Rattle.steps.specs.Driven.{no_partfeet, partfeet_in, partfeet_of}
 use Rattle.letters.specs.Level.{level_of}
 use Rattle.door.specs.declared.Facility.{Facility}
 use Rattle.facility.specs.Verdicts.{Verdict, GoesOn, RefusedBy, Taking, NewSheet, SameSheet, NotTaken, take_verdict, run_verdict, report_verdict, period_verdict}
@@ -26,7 +27,7 @@ pub record Reply : Type 0 where
   pub used : ℕ
   pub facility : Facility
 
--- what a segment report gives: n, q, the last step's f, r, off(y) and y, the letter, and the segment's totals
+-- what a segment report gives: n, q, the last step's f, r, off(y) and y, the letter, the segment's totals and its part-feet
 pub record ReportReply : Type 0 where
   pub refusal : ℕ
   pub n : ℕ
@@ -37,14 +38,16 @@ pub record ReportReply : Type 0 where
   pub out : ℕ
   pub level : Level
   pub tally : Tally
+  pub partfeet : ℕ
 
--- what totals give: arrived, left, stored and part-steps
+-- what totals give: arrived, left, stored, part-steps and part-feet
 pub record SumsReply : Type 0 where
   pub refusal : ℕ
   pub arrived : ℕ
   pub left : ℕ
   pub stored : ℕ
   pub partsteps : ℕ
+  pub partfeet : ℕ
 
 -- the row that stands for no sheet
 abbrev pub no_sheet : List ℕ
@@ -59,6 +62,7 @@ fresh_on road = record {
   made = 0;
   state = fresh_state;
   tallies = fresh_tallies;
+  partfeet = no_partfeet;
   arrived = 0;
   left = 0;
   partsteps = 0;
@@ -111,13 +115,14 @@ ran_by f k (RefusedBy number) = refused f number 0
 unfoldable pub run_of : Facility → ℕ → Reply
 run_of f k = unless_empty f (λ e. refused f e 0) (ran_by f k (run_verdict f.taken f.made k))
 
--- a report of a cell: n, q, the last step's f, r, off(y) and y, the letter and the totals; a refused one has every number 0 and the letter A
-abbrev pub reported : Cell → Level → Tally → ReportReply
-reported c level tally =
-    record { refusal = 0; n = c.n; q = c.q; main = c.main; ramp = c.ramp; off = c.off; out = c.out; level = level; tally = tally }
+-- a report of a cell: n, q, the last step's f, r, off(y) and y, the letter, the totals and the part-feet; a refused one has every number 0 and the
+-- letter A
+abbrev pub reported : Cell → Level → Tally → (partfeet : ℕ) → ReportReply
+reported c level tally partfeet =
+    record { refusal = 0; n = c.n; q = c.q; main = c.main; ramp = c.ramp; off = c.off; out = c.out; level = level; tally = tally; partfeet = partfeet }
 
 abbrev pub no_report : ℕ → ReportReply
-no_report number = record { refusal = number; n = 0; q = 0; main = 0; ramp = 0; off = 0; out = 0; level = A; tally = no_tally }
+no_report number = record { refusal = number; n = 0; q = 0; main = 0; ramp = 0; off = 0; out = 0; level = A; tally = no_tally; partfeet = 0 }
 
 -- the letter of segment i, counted from 0, by the length and the lanes in force
 unfoldable pub level_at : Facility → ℕ → Level
@@ -125,7 +130,7 @@ level_at f i = level_of (cell_in f.state i).n (in_force_at (conditions_on f) i).
 
 -- by the verdict: the report, or the refusal
 abbrev pub reported_by : Facility → (segment : ℕ) → Verdict → ReportReply
-reported_by f i GoesOn = reported (cell_in f.state (i - 1)) (level_at f (i - 1)) (tally_in f.tallies (i - 1))
+reported_by f i GoesOn = reported (cell_in f.state (i - 1)) (level_at f (i - 1)) (tally_in f.tallies (i - 1)) (partfeet_in f.partfeet (i - 1))
 reported_by f i (RefusedBy number) = no_report number
 
 -- Segment report, segments counted from 1: 9, then its verdict
@@ -134,7 +139,7 @@ report_of f i = unless_empty f no_report (reported_by f i (report_verdict f.road
 
 -- refused totals: every number 0
 abbrev pub no_sums : ℕ → SumsReply
-no_sums number = record { refusal = number; arrived = 0; left = 0; stored = 0; partsteps = 0 }
+no_sums number = record { refusal = number; arrived = 0; left = 0; stored = 0; partsteps = 0; partfeet = 0 }
 
 -- Totals: 9
 unfoldable pub totals_of : Facility → SumsReply
@@ -145,6 +150,7 @@ totals_of f =
       left = f.left;
       stored = stored_of (segments f.road) f.state;
       partsteps = f.partsteps;
+      partfeet = partfeet_of (segments f.road) f.partfeet;
     })
 
 -- what a writing gives: its answer, and the buffer after it

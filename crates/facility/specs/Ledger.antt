@@ -1,5 +1,5 @@
--- Document 01, "The list statement", and document 02, Q-4, the segments' totals, and Q-5, the sheet in force once more: the ledger, worked out from
--- the road and the calls' arguments alone. It names no facility.
+-- Document 01, "The list statement", and document 02, Q-4, the segments' totals, Q-5, the sheet in force once more, and Q-7, part-feet: the ledger,
+-- worked out from the road and the calls' arguments alone. It names no facility.
 use Rattle.std.specs.Prelude.{ℕ, zero, suc, ◌+◌, ◌-◌, List, [], ◌∷◌, take}
 use Rattle.numbers.specs.Row.{Rows}
 use Rattle.sheets.specs.Read.{read_period, padded}
@@ -11,6 +11,7 @@ use Rattle.letters.specs.declared.Level.{Level}
 use Rattle.conditions.specs.declared.InForce.{InForce}
 use Rattle.conditions.specs.Conditions.{Conditions, in_force_at, SheetInForce, None, Under, conditions_of, segments}
 use Rattle.steps.specs.Step.{cell_in, stepped, fresh_state, arrived_of, left_of, stored_of}
+use Rattle.steps.specs.Driven.{driven_at, driven_of}
 use Rattle.letters.specs.Level.{level_of}
 
 -- the calls of a list, with their arguments
@@ -29,13 +30,13 @@ pub record Figures : Type 0 where
   pub off : ℕ
   pub out : ℕ
 
--- the calls' answers. A report: its figures, the letter and the segment's totals. Totals: arrived, left, stored, part-steps
+-- the calls' answers. A report: its figures, the letter, the segment's totals and its part-feet. Totals: arrived, left, stored, part-steps, part-feet
 pub data Answer : Type 0 where
   Refused : (number offset : ℕ) → Answer
   Taken : (used : ℕ) → Answer
   Ran : Answer
-  Reported : Figures → Level → Tally → Answer
-  Summed : (arrived left stored partsteps : ℕ) → Answer
+  Reported : Figures → Level → Tally → (partfeet : ℕ) → Answer
+  Summed : (arrived left stored partsteps partfeet : ℕ) → Answer
 
 -- one step of the ledger: what was in force in it, the state at its start, the state and the flows at its end
 pub record Step : Type 0 where
@@ -65,7 +66,12 @@ unfoldable pub partsteps_in : Trail → ℕ
 partsteps_in [] = 0
 partsteps_in (s ∷ t) = partsteps_in t + (arrived_in (s ∷ t) - left_in (s ∷ t))
 
--- and of segment i: what left by its off-ramp, each step's own off(y)
+-- part-feet, each step's own y × L over all segments by its own conditions
+unfoldable pub driven_in : Trail → ℕ
+driven_in [] = 0
+driven_in (s ∷ t) = driven_in t + driven_of s.conditions s.after
+
+-- the sums of segment i: what left by its off-ramp, each step's own off(y)
 unfoldable pub off_in : Trail → (i : ℕ) → ℕ
 off_in [] i = 0
 off_in (s ∷ t) i = off_in t i + (cell_in s.after i).off
@@ -78,6 +84,11 @@ out_in (s ∷ t) i = out_in t i + (cell_in s.after i).out
 -- both, as a report tells them
 abbrev pub tally_of : Trail → (i : ℕ) → Tally
 tally_of t i = record { off = off_in t i; out = out_in t i }
+
+-- the part-feet of segment i, each step's own y × L
+unfoldable pub partfeet_at : Trail → (i : ℕ) → ℕ
+partfeet_at [] i = 0
+partfeet_at (s ∷ t) i = partfeet_at t i + driven_at s.conditions s.after i
 
 -- a step by the step rules under conditions, and k of them, each from the state that the one before left
 abbrev pub step_from : Conditions → State → Step
@@ -136,9 +147,9 @@ with_taking b (NotTaken number offset) = b
 abbrev pub figures_of : Cell → Figures
 figures_of cell = record { n = cell.n; q = cell.q; main = cell.main; ramp = cell.ramp; off = cell.off; out = cell.out }
 
--- a report of a segment: n, q and the last step's flows, the letter by what is in force there, and the totals
-abbrev pub report_in : Cell → InForce → Tally → Answer
-report_in cell here tally = Reported (figures_of cell) (level_of cell.n here.length here.lanes) tally
+-- a report of a segment: n, q and the last step's flows, the letter by what is in force there, the totals and the part-feet
+abbrev pub report_in : Cell → InForce → Tally → (partfeet : ℕ) → Answer
+report_in cell here tally partfeet = Reported (figures_of cell) (level_of cell.n here.length here.lanes) tally partfeet
 
 -- the book with k steps more
 abbrev pub with_steps : Rules → ℕ → Book → Book
@@ -156,7 +167,7 @@ with_run rules b k (RefusedBy number) = b
 -- Segment report, by its verdict; segments are counted from 1
 abbrev pub reported_as : Rules → Book → (segment : ℕ) → Verdict → Answer
 reported_as rules b i GoesOn =
-    report_in (cell_in (state_after b.trail) (i - 1)) (in_force_at (conditions_by rules b) (i - 1)) (tally_of b.trail (i - 1))
+    report_in (cell_in (state_after b.trail) (i - 1)) (in_force_at (conditions_by rules b) (i - 1)) (tally_of b.trail (i - 1)) (partfeet_at b.trail (i - 1))
 reported_as rules b i (RefusedBy number) = Refused number 0
 
 -- the answer of a call, by the verdict of its table (9 never comes, for the road is laid)
@@ -165,7 +176,7 @@ answer_by rules b (Take bytes) = taken_as (take_by rules b bytes)
 answer_by rules b (Run k) = ran_as (run_verdict b.taken b.made k)
 answer_by rules b (Report i) = reported_as rules b i (report_verdict b.road i)
 answer_by rules b Totals =
-    Summed (arrived_in b.trail) (left_in b.trail) (stored_of (segments b.road) (state_after b.trail)) (partsteps_in b.trail)
+    Summed (arrived_in b.trail) (left_in b.trail) (stored_of (segments b.road) (state_after b.trail)) (partsteps_in b.trail) (driven_in b.trail)
 
 -- the book after a call: "a call that the tables refuse changes nothing, nor do a segment report and totals"
 abbrev pub after_by : Rules → Book → Call → Book

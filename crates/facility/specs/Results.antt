@@ -22,12 +22,13 @@ ran (Err r) f = record { refusal = refusal_number r; offset = 0; used = 0; facil
 -- of a segment report
 abbrev pub report_told : Result SegmentReport Refusal → ReportReply
 report_told (Ok r) =
-    record { refusal = 0; n = r.n; q = r.q; main = r.main; ramp = r.ramp; off = r.off; out = r.out; level = r.level; tally = r.tally }
+    record { refusal = 0; n = r.n; q = r.q; main = r.main; ramp = r.ramp; off = r.off; out = r.out; level = r.level; tally = r.tally; partfeet = r.partfeet }
 report_told (Err r) = no_report (refusal_number r)
 
 -- of totals
 abbrev pub sums_told : Result Sums Refusal → SumsReply
-sums_told (Ok s) = record { refusal = 0; arrived = s.arrived; left = s.left; stored = s.stored; partsteps = s.partsteps }
+sums_told (Ok s) =
+    record { refusal = 0; arrived = s.arrived; left = s.left; stored = s.stored; partsteps = s.partsteps; partfeet = s.partfeet }
 sums_told (Err r) = no_sums (refusal_number r)
 
 -- of the checks of a call

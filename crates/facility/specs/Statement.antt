@@ -1,14 +1,15 @@
--- Document 01, "The list statement", and document 02, Q-4, the off-ramp's total to the part: the one claim about a whole list of calls on a road
--- just laid. `proofs/Lists` shows it of every list.
+-- Document 01, "The list statement", and document 02, Q-4, the off-ramp's total to the part, and Q-7, part-feet: the one claim about a whole list of
+-- calls on a road just laid. `proofs/Lists` shows it of every list.
 use Rattle.std.specs.Prelude.{ℕ, ◌+◌, ◌<◌, true, ◌≡◌, [], ◌∷◌, List, map}
 use Rattle.parts.specs.Parts.{segment_of}
 use Rattle.conditions.specs.Conditions.{segments}
-use Rattle.steps.specs.Step.{cell_in, stored_of}
+use Rattle.steps.specs.Step.{cell_in, stored_of, sum_to}
 use Rattle.steps.specs.Tallies.{tally_in}
+use Rattle.steps.specs.Driven.{partfeet_in, partfeet_of}
 use Rattle.door.specs.declared.Facility.{Facility}
 use Rattle.door.specs.Sound.{sound}
 use Rattle.numbers.specs.Number.{Bytes}
-use Rattle.facility.specs.Ledger.{Call, Take, Run, Report, Totals, Answer, Refused, Trail, state_after, arrived_in, left_in, partsteps_in, tally_of, opened, answers, book_after}
+use Rattle.facility.specs.Ledger.{Call, Take, Run, Report, Totals, Answer, Refused, Trail, state_after, arrived_in, left_in, partsteps_in, driven_in, tally_of, partfeet_at, opened, answers, book_after}
 use Rattle.facility.specs.Calls.{empty, not_written, write_road_of, write_period_of}
 use Rattle.facility.specs.Claims.{Every, Chained, Right, Balanced, ToThePart, Apportioned}
 use Rattle.facility.specs.View.{view}
@@ -29,7 +30,8 @@ trail road cs = (book_after (opened road) cs).trail
 
 -- THE STATEMENT. `road` is the road laid, `xs` are the answers that the calls gave, and `g` is the facility that they left
 pub record ListStatement (road : List ℕ) (cs : List Call) (xs : List Answer) (g : Facility) : Type 0 where
-  -- every answer is the ledger's, refusals with their numbers and offsets, reports with n, q, f, r, off(y), y, the letter and both totals
+  -- every answer is the ledger's, refusals with their numbers and offsets, reports with n, q, f, r, off(y), y, the letter, both totals and
+  -- the part-feet
   pub answered : xs ≡ answers (opened road) cs
   -- the facility left is the one that shows the ledger's book, in every field
   pub shows : g ≡ view (book_after (opened road) cs)
@@ -52,6 +54,11 @@ pub record ListStatement (road : List ℕ) (cs : List Call) (xs : List Answer) (
   -- every step
   pub off_ramps : (i : ℕ) → i < segments road → ToThePart (segment_of road i).share (tally_in g.tallies i) (cell_in g.state i).remainder
   pub apportioned : Apportioned (trail road cs)
+  -- each segment's part-feet, which its report gives, are the sum over the ledger's steps of each step's own y × L; those of the totals are the sum
+  -- over the steps of y × L over all segments, and that is the sum of the segments'
+  pub partfeet : (i : ℕ) → i < segments road → partfeet_in g.partfeet i ≡ partfeet_at (trail road cs) i
+  pub driven : partfeet_of (segments g.road) g.partfeet ≡ driven_in (trail road cs)
+  pub summed_up : driven_in (trail road cs) ≡ sum_to (partfeet_at (trail road cs)) (segments road)
   -- the road stays as it was laid, and the facility is never the empty one
   pub same_road : g.road ≡ road
   pub never_empty : sound g ≡ true

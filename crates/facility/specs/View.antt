@@ -4,9 +4,10 @@ use Rattle.conditions.specs.Conditions.{SheetInForce, None, Under, segments}
 use Rattle.segment.specs.declared.tally.Tally.{Tally}
 use Rattle.steps.specs.Step.{replaced}
 use Rattle.steps.specs.Tallies.{fresh_tallies}
+use Rattle.steps.specs.Driven.{no_partfeet}
 use Rattle.door.specs.declared.Facility.{Facility}
 use Rattle.facility.specs.Calls.{no_sheet}
-use Rattle.facility.specs.Ledger.{Trail, Book, state_after, tally_of, arrived_in, left_in, partsteps_in}
+use Rattle.facility.specs.Ledger.{Trail, Book, state_after, tally_of, partfeet_at, arrived_in, left_in, partsteps_in}
 
 -- the row of the sheet in force
 abbrev pub row_in : SheetInForce → List ℕ
@@ -17,6 +18,10 @@ row_in (Under period) = period
 abbrev pub tallies_of : (segments : ℕ) → Trail → List Tally
 tallies_of ns t = replaced (tally_of t) ns fresh_tallies
 
+-- and their part-feet
+abbrev pub partfeet_kept : (segments : ℕ) → Trail → List ℕ
+partfeet_kept ns t = replaced (partfeet_at t) ns no_partfeet
+
 abbrev pub view : Book → Facility
 view b = record {
   road = b.road;
@@ -25,6 +30,7 @@ view b = record {
   made = b.made;
   state = state_after b.trail;
   tallies = tallies_of (segments b.road) b.trail;
+  partfeet = partfeet_kept (segments b.road) b.trail;
   arrived = arrived_in b.trail;
   left = left_in b.trail;
   partsteps = partsteps_in b.trail;

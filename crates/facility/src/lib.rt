@@ -7,6 +7,7 @@ ghost use Rattle.conditions.specs.Conditions.{segments, entry_under};
 ghost use Rattle.running.specs.Steps.{sheet_by};
 ghost use Rattle.steps.specs.Step.{cell_in};
 ghost use Rattle.steps.specs.Tallies.{tally_in};
+ghost use Rattle.steps.specs.Driven.{partfeet_in};
 ghost use Rattle.door.specs.Sound.{sound};
 ghost use Rattle.parts.specs.Good.{GoodRoad};
 ghost use Rattle.facility.specs.Calls.{fresh_on, lay_of, with_sheet, taken_by, take_of, run_of, reported, level_at, report_of, totals_of, write_road_of, write_period_of};
@@ -20,7 +21,7 @@ use segment::Tally;
 use sheets::Layout;
 use steps::State;
 
-// A segment report: n, q, the last step's f, r, off(y) and y, the level letter, and the segment's totals since the laying.
+// A segment report: n, q, the last step's f, r, off(y) and y, the level letter, and the segment's totals and part-feet since the laying.
 #[derive(Clone, Copy, Debug, PartialEq, Eq)]
 pub struct SegmentReport {
     pub n: u32,
@@ -31,15 +32,17 @@ pub struct SegmentReport {
     pub out: u32,
     pub level: Level,
     pub tally: Tally,
+    pub partfeet: u64,
 }
 
-// The totals: arrived, left, stored and part-steps.
+// The totals: arrived, left, stored, part-steps and part-feet.
 #[derive(Clone, Copy, Debug, PartialEq, Eq)]
 pub struct Sums {
     pub arrived: u64,
     pub left: u64,
     pub stored: u64,
     pub partsteps: u64,
+    pub partfeet: u64,
 }
 
 // A laying: the facility, which is the empty one beside a refusal, and how many bytes were used.
@@ -73,6 +76,7 @@ pub fn fresh_on(road: [u32; 452]) -> Facility
         made: 0,
         state: State::fresh(),
         tallies: [Tally::default(); 64],
+        partfeet: [0; 64],
         arrived: 0,
         left: 0,
         partsteps: 0,
@@ -205,7 +209,7 @@ fn lanes_at(f: &Facility, i: usize) -> u32
 #[tactic(auto, using(crate::proofs::Letters::letter_is))]
 fn report_at(f: &Facility, i: usize) -> SegmentReport
     requires { GoodRoad f.now.road × (i < segments f.now.road) }
-    ensures { report_told (Ok result) ≡ reported (cell_in f.now.state i) (level_at f.now i) (tally_in f.now.tallies i) }
+    ensures { report_told (Ok result) ≡ reported (cell_in f.now.state i) (level_at f.now i) (tally_in f.now.tallies i) (partfeet_in f.now.partfeet i) }
 {
     let cell = f.state.cells[i];
     let length = parts::segment_at(&f.road, i as u32).length;
@@ -219,6 +223,7 @@ fn report_at(f: &Facility, i: usize) -> SegmentReport
         out: cell.out,
         level: letters::level_of(cell.n, length, lanes),
         tally: f.tallies[i],
+        partfeet: f.partfeet[i],
     }
 }
 
@@ -233,7 +238,7 @@ pub fn report(f: &Facility, segment: u32) -> Result<SegmentReport, Refusal>
 }
 
 // The totals.
-#[tactic(auto, using(crate::proofs::Open::open_road), unfolding(crate::specs::Calls::totals_of, parts::specs::Parts::road_globals))]
+#[tactic(auto, using(crate::proofs::Open::open_road, crate::proofs::Open::open_partfeet), unfolding(crate::specs::Calls::totals_of, parts::specs::Parts::road_globals))]
 pub fn totals(f: &Facility) -> Result<Sums, Refusal>
     ensures { sums_told result ≡ totals_of f.now }
 {
@@ -243,6 +248,7 @@ pub fn totals(f: &Facility) -> Result<Sums, Refusal>
         left: f.left,
         stored: steps::stored(f.road[0] as usize, &f.state),
         partsteps: f.partsteps,
+        partfeet: steps::partfeet_of(f.road[0] as usize, &f.partfeet),
     })
 }
 

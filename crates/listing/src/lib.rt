@@ -1,4 +1,4 @@
-// Prints a forecast as document 01 shows it: the listing, or the one line of a refusal.
+// Prints a forecast as documents 01 and 02 show it: the listing, or the one line of a refusal.
 #![tactic(auto)]
 
 use facility::Sums;
@@ -6,10 +6,15 @@ use std::io;
 use std::io::Write;
 use study::{Line, Listing};
 
-// A segment's line: its number, n, q and the letter.
+// A segment's line: its number, n, q, the letter and the part-feet.
 fn print_line<W: Write>(output: &mut W, segment: u32, line: Line) -> io::Result<()> {
-    let Line { n, q, level } = line;
-    writeln!(output, "{segment} {n} {q} {level}")
+    let Line {
+        n,
+        q,
+        level,
+        partfeet,
+    } = line;
+    writeln!(output, "{segment} {n} {q} {level} {partfeet}")
 }
 
 fn print_listing<W: Write>(output: &mut W, listing: &Listing) -> io::Result<()> {
@@ -18,6 +23,7 @@ fn print_listing<W: Write>(output: &mut W, listing: &Listing) -> io::Result<()> 
         left,
         stored,
         partsteps,
+        partfeet,
     } = listing.totals;
     let origin = listing.origin;
     writeln!(output, "arrived {arrived}")?;
@@ -28,7 +34,7 @@ fn print_listing<W: Write>(output: &mut W, listing: &Listing) -> io::Result<()> 
     for (segment, line) in (1..).zip(listing.lines.iter().flatten()) {
         print_line(output, segment, *line)?;
     }
-    Ok(())
+    writeln!(output, "partfeet {partfeet}")
 }
 
 // Prints the forecast of a study.

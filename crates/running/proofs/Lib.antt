@@ -1,2 +1,3 @@
 pub mod InForce
+pub mod Run
 pub mod Loop

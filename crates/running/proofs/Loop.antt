@@ -1,9 +1,10 @@
--- The loop of a run: after i steps the facility is that of i steps, and in its bounds.
+-- The loop of a run: after i steps the facility is that of i steps but for the part-feet, which are added after the last, and in its bounds.
 use Prim.Native.Nat.{ℕ, ◌+◌, ◌-◌, ◌*◌, ◌≤◌, ◌<◌}
 use mathlib.Core.List.{List}
 use mathlib.Core.Path.{◌≡◌, refl, sym, ap, ◌∙◌, subst}
 use native.Mathlib.Omega.{arith}
 use native.Mathlib.Numerals.{add-one}
+use lib.ListN.{length}
 use Rattle.parts.specs.Good.{GoodRoad, GoodPeriod}
 use Rattle.parts.proofs.Good.{good_road}
 use Rattle.segment.specs.declared.tally.Tally.{Tally}
@@ -13,19 +14,26 @@ use Rattle.steps.specs.Step.{stepped, arrived_of, left_of}
 use Rattle.conditions.specs.Good.{GoodConditions}
 use Rattle.conditions.proofs.Good.{under, good_conditions}
 use Rattle.steps.specs.Tallies.{tallied}
-use Rattle.steps.specs.Bounded.{Bounded, BoundedTallies}
+use Rattle.steps.specs.Since.{driven_since}
+use Rattle.steps.specs.Bounded.{Bounded, BoundedTallies, BoundedPartfeet}
 use Rattle.steps.proofs.Bounds.{bounded_longer, bounded_after, arrived_most, left_most}
 use Rattle.steps.proofs.Tallies.{tallies_longer, tallied_bounded}
+use Rattle.steps.proofs.Driven.{partfeet_longer}
 use Rattle.door.specs.declared.Facility.{Facility}
 use Rattle.door.specs.Sound.{steps_by}
 use Rattle.running.specs.Ready.{Ready}
 use Rattle.door.proofs.Sound.{BoundedSums, Sound, is_sound, good_sheet}
 use Rattle.running.proofs.InForce.{sheeted_by_some}
+use Rattle.running.proofs.Run.{run_partfeet}
 use Rattle.running.specs.Steps.{conditions_on, step_of, steps_of}
+
+-- with the part-feet of the run's start
+abbrev pub with_first_partfeet : (start now : Facility) → Facility
+with_first_partfeet start now = record now { partfeet = start.partfeet }
 
 -- a run's turn: the facility of i steps, under the same conditions, with its counts and bounds
 pub record Turn (f : Facility) (k i : ℕ) (now : Facility) : Type 0 where
-  pub is : now ≡ steps_of i f
+  pub is : now ≡ with_first_partfeet f (steps_of i f)
   pub most : i ≤ k
   pub same : conditions_on now ≡ conditions_on f
   pub taken : now.taken ≡ f.taken
@@ -124,7 +132,8 @@ module _ (f : Facility) (k : ℕ) (ready : Ready f k) where
         let s = t.sums in
         let n = few in
         record {
-          is = rw (em, ea, el, et, en, ← t.same) (ap step_of t.is ∙ ap (λ (j : ℕ). steps_of j f) (sym (add-one i)));
+          is = rw (em, ea, el, et, en, ← t.same) (
+              ap (λ (g : Facility). record (step_of g) { partfeet = g.partfeet }) t.is ∙ ap (λ (j : ℕ). with_first_partfeet f (steps_of j f)) (sym (add-one i)));
           most = omega arith;
           same = t.same;
           taken = t.taken;
@@ -138,7 +147,22 @@ module _ (f : Facility) (k : ℕ) (ready : Ready f k) where
           });
         }
 
-  pub turn_end : (i : ℕ) (now : Facility) → Turn f k i now → k ≤ i → now ≡ steps_of k f
-  turn_end i now t h =
-      let e : i ≡ k = omega (arith, t.most) in
-      subst (λ (j : ℕ). now ≡ steps_of j f) e t.is
+  module _ (i : ℕ) (now : Facility) (t : Turn f k i now) where
+    -- what adding the part-feet asks
+    pub end_tallies : BoundedTallies (conditions_on f).segments 5760 now.tallies
+    unfolding steps_by
+    end_tallies = tallies_longer _ _ 5760 now.tallies (omega (arith, facts.few, ready.room, t.taken, t.made, t.most)) t.tallies
+
+    pub end_partfeet : BoundedPartfeet (conditions_on f).segments 5760 now.partfeet
+    unfolding steps_by conditions_of
+    end_partfeet =
+        rw (ap (λ (g : Facility). g.partfeet) t.is) (partfeet_longer _ _ 5760 f.partfeet (omega (arith, facts.few, facts.short)) facts.partfeet)
+
+    -- and the end, with them added
+    pub turn_end : k ≤ i → (conditions_on f).segments ≤ length f.state.cells → (conditions_on f).segments ≤ length f.tallies
+        → (conditions_on f).segments ≤ length f.partfeet → (feet : List ℕ) → feet ≡ driven_since (conditions_on f) f.tallies now.tallies now.partfeet
+        → record now { partfeet = feet } ≡ steps_of k f
+    turn_end h cells tallies long feet e =
+        let last : i ≡ k = omega (arith, t.most) in
+        let is : now ≡ with_first_partfeet f (steps_of k f) = subst (λ (j : ℕ). now ≡ with_first_partfeet f (steps_of j f)) last t.is in
+        rw (e, is, run_partfeet f cells tallies long k)

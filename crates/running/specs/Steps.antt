@@ -1,8 +1,9 @@
--- Document 01, "Calls on a facility", run k steps, and document 02, Q-4, the totals: what a facility is after a step, and after k of them.
+-- Document 01, "Calls on a facility", run k steps, and document 02, Q-4, the totals, and Q-7, part-feet: what a facility is after a step, and after k of them.
 use Rattle.std.specs.Prelude.{ℕ, zero, suc, ◌+◌, ◌-◌, List}
 use Rattle.conditions.specs.Conditions.{Conditions, SheetInForce, None, Under, conditions_of}
 use Rattle.steps.specs.Step.{stepped, arrived_of, left_of}
 use Rattle.steps.specs.Tallies.{tallied}
+use Rattle.steps.specs.Driven.{driven}
 use Rattle.door.specs.declared.Facility.{Facility}
 
 -- the sheet in force, by the number of sheets taken
@@ -14,8 +15,8 @@ sheet_by (suc n) period = Under period
 abbrev pub conditions_on : Facility → Conditions
 conditions_on f = conditions_of f.road (sheet_by f.taken f.period)
 
--- one step under the sheet in force: each segment's off(y) and y are added to its totals, arrived and left to the two sums, then the first
--- of these less the second to part-steps
+-- one step under the sheet in force: each segment's off(y) and y are added to its totals, its y × L to its part-feet, arrived and left to the
+-- two sums, then the first of these less the second to part-steps
 unfoldable pub step_of : Facility → Facility
 step_of f =
     let c = conditions_on f in
@@ -29,6 +30,7 @@ step_of f =
       made = f.made + 1;
       state = next;
       tallies = tallied c f.state f.tallies;
+      partfeet = driven c next f.partfeet;
       arrived = arrived;
       left = left;
       partsteps = f.partsteps + (arrived - left);

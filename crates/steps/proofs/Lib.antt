@@ -1,3 +1,4 @@
+pub mod Computed
 pub mod Sums
 pub mod Laws
 pub mod Balance
@@ -5,3 +6,4 @@ pub mod Bounds
 pub mod Claims
 pub mod Passing
 pub mod Tallies
+pub mod Driven

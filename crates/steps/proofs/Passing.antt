@@ -20,7 +20,7 @@ use Rattle.segment.proofs.Laws.{ramp_limit, taken_in}
 use Rattle.steps.proofs.Laws.{exit_exact, main_flow_at_lem, origin_flow}
 use Rattle.steps.proofs.Balance.{left_is}
 use Rattle.steps.proofs.Bounds.{off_most_after}
-use Rattle.steps.proofs.Sums.{replaced_beyond, sum_more, sum_most}
+use Rattle.steps.proofs.Sums.{replaced_more, replaced_beyond, sum_more, sum_most}
 use Rattle.segment.specs.Movable.{Movable}
 use Rattle.segment.specs.Entered.{sent_of, entered, flow_of}
 
@@ -132,8 +132,7 @@ module _ (c : Conditions) (start : State) (last : ℕ) (now : State) (came : Ent
 
   module _ (after : Cell) (moved : after ≡ next_cell c start i) where
     next_cells : set now.cells i after ≡ replaced (next_cell c start) (i + 1) start.cells
-    unfolding replaced
-    next_cells = rw (add-one, at.cells_are, moved)
+    next_cells = replaced_more (next_cell c start) i start.cells now.cells after at.cells_are moved
 
     next_left : left + after.off ≡ sum_to (λ j. (next_cell c start j).off) (i + 1)
     next_left = sum_more (λ j. (next_cell c start j).off) i left after.off at.left_is (rw moved)

@@ -7,7 +7,7 @@ use mathlib.Core.Logic.{⊎_elim}
 use native.Mathlib.Nat.{eq-or-lt_of_le}
 use native.Mathlib.Numerals.{add-one}
 use native.Mathlib.Omega.{arith}
-use lib.ListN.{length, get_or, length-set, get_or-eq_default}
+use lib.ListN.{length, get_or, set, length-set, get_or-eq_default}
 use lib.Dec.{ltb}
 use borrow.Author.Tests.{ltb-true, ltb-false}
 use lib.Seq.{get_or-set_same, get_or-set_other}
@@ -35,6 +35,11 @@ pub replaced_beyond : {A : Type 0} (g : ℕ → A) (k i : ℕ) (xs : List A) (d 
 unfolding replaced
 replaced_beyond g zero i xs d h = refl
 replaced_beyond g (suc k) i xs d h = get_or-set_other (replaced g k xs) k i (g k) d (λ e. omega arith) ∙ replaced_beyond g k i xs d (omega arith)
+
+-- one element more
+pub replaced_more : {A : Type 0} (g : ℕ → A) (i : ℕ) (xs now : List A) (x : A) → now ≡ replaced g i xs → x ≡ g i → set now i x ≡ replaced g (i + 1) xs
+unfolding replaced
+replaced_more g i xs now x at e = rw (add-one, at, e)
 
 -- a list that has the function's values first, and then what stood there, is the list replaced
 pub replaced_is : {A : Type 0} (g : ℕ → A) (k : ℕ) (xs ys : List A) (d : A) → k ≤ length xs → length ys ≡ length xs
@@ -70,6 +75,12 @@ pub sum_most : (g : ℕ → ℕ) (b k : ℕ) → ((i : ℕ) → i < k → g i �
 unfolding sum_to
 sum_most g b zero h = omega arith
 sum_most g b (suc k) h = omega (arith, sum_most g b k (λ i l. h i (omega arith)), h k (omega arith))
+
+-- two sums are the sum of both
+pub sum_both : (g h : ℕ → ℕ) (k : ℕ) → sum_to g k + sum_to h k ≡ sum_to (λ i. g i + h i) k
+unfolding sum_to
+sum_both g h zero = omega arith
+sum_both g h (suc k) = omega (arith, sum_both g h k)
 
 -- what each place passes on to the next cancels out
 pub telescope : (a b c d f : ℕ → ℕ) (k : ℕ) →

@@ -2,7 +2,6 @@
 use Prim.Native.Nat.{ℕ, suc, ◌+◌, ◌≤◌, ◌<◌}
 use mathlib.Core.List.{List}
 use mathlib.Core.Path.{◌≡◌, refl, sym, ap, ◌∙◌}
-use native.Mathlib.Numerals.{add-one}
 use native.Mathlib.Omega.{arith}
 use lib.ListN.{length, get_or, set}
 use Rattle.segment.specs.declared.Cell.{Cell}
@@ -20,7 +19,7 @@ use Rattle.segment.proofs.Laws.{let_out}
 use Rattle.steps.proofs.Laws.{stepped_cell}
 use Rattle.steps.proofs.Bounds.{off_most_after}
 use Rattle.conditions.proofs.Values.{replicated}
-use Rattle.steps.proofs.Sums.{length_replaced, replaced_at, replaced_beyond, replaced_either}
+use Rattle.steps.proofs.Sums.{length_replaced, replaced_at, replaced_more, replaced_beyond, replaced_either}
 
 none_bounded : (t : ℕ) → BoundedTally t no_tally
 none_bounded t = record { off = omega arith; out = omega arith }
@@ -79,8 +78,7 @@ module _ (c : Conditions) (state : State) (start : List Tally) where
 
     pub counted : (after : Cell) (tally : Tally) → after ≡ next_cell c state i → tally ≡ with_step (tally_in now i) after
         → Counting c state start (set now i tally) (i + 1)
-    unfolding replaced
-    counted after tally a e = rw (add-one, e, a, not_yet, at)
+    counted after tally a e = replaced_more (next_tally c state start) i start now tally at (rw (e, a, not_yet))
 
     -- after the last segment
     pub all_counted : (last : ℕ) (after : Cell) (tally : Tally) → i ≤ last → last ≤ i → last + 1 ≡ c.segments → after ≡ next_cell c state last

@@ -7,7 +7,10 @@ ghost use Rattle.steps.specs.Step.{fresh_state, stepped, arrived_of, left_of, st
 ghost use Rattle.steps.specs.Tallies.{tallied};
 ghost use Rattle.steps.specs.Bounded.{Bounded, BoundedTallies};
 
+mod partfeet;
+
 use conditions::Conditions;
+pub use partfeet::{drive, partfeet_of};
 use segment::{Cell, Tally, flow_at, moved_at, sent_at};
 
 // The road's state: the segments' cells, the mainline queue o before node 1, and of the last step the flow f at the exit.

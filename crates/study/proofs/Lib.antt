@@ -1,3 +1,4 @@
 pub mod Lines
 pub mod Periods
+pub mod Foot
 pub mod Numbers

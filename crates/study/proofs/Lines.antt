@@ -13,6 +13,7 @@ use Rattle.steps.specs.Step.{replaced}
 use Rattle.steps.proofs.Sums.{length_replaced}
 use Rattle.door.specs.declared.Facility.{Facility}
 use Rattle.door.specs.Sound.{sound}
+use Rattle.door.proofs.Sound.{few_segments}
 use Rattle.parts.specs.Parts.{road_globals}
 use Rattle.facility.specs.declared.SegmentReport.{SegmentReport}
 use Rattle.facility.specs.declared.Sums.{Sums}
@@ -21,6 +22,7 @@ use Rattle.facility.specs.Results.{report_told, sums_told}
 use Rattle.facility.specs.Answers.{report_says}
 use Rattle.facility.specs.Ledger.{Report, Book, present, answer}
 use Rattle.facility.proofs.Cases.{totals_sound}
+use Rattle.facility.proofs.Partfeet.{kept_driven}
 use Rattle.facility.proofs.Trail.{KeptBook}
 use Rattle.facility.specs.View.{view}
 use Rattle.facility.proofs.OneCall.{sound_view, reports}
@@ -31,11 +33,11 @@ use Rattle.study.specs.Shown.{line_shown, line_at, shown}
 -- a report's line, and none of a refused one
 module _ (f : Facility) (i : ℕ) where
   pub line_is : (r : Result SegmentReport Refusal) (x : SegmentReport) → report_told r ≡ report_of f (i + 1) → result_ok r ≡ Some x
-      → line_shown (Some (record { n = x.n; q = x.q; level = x.level })) ≡ line_at f i
+      → line_shown (Some (record { n = x.n; q = x.q; level = x.level; partfeet = x.partfeet })) ≡ line_at f i
   unfolding line_at
   line_is (Ok y) x e s =
       let same : y ≡ x = cc in
-      ap (λ (z : SegmentReport). line_shown (Some (record { n = z.n; q = z.q; level = z.level }))) (sym same)
+      ap (λ (z : SegmentReport). line_shown (Some (record { n = z.n; q = z.q; level = z.level; partfeet = z.partfeet }))) (sym same)
       ∙ ap (λ (q : ReportReply). line_of (report_says q)) e
   line_is (Err e) x h s = cc
 
@@ -66,7 +68,7 @@ shows b f =
     let lines =
     lines_same (λ i. line_of (report_says (report_of (view b) (i + 1)))) (λ i. line_of (answer b (Report (i + 1)))) (segments b.road)
     (λ i. ap line_of (reports b (i + 1) f)) in
-    rw (totals_sound (view b) (sound_view b f), lines)
+    rw (totals_sound (view b) (sound_view b f), lines, kept_driven b.road b.trail (few_segments b.road f.road) f.kept.on_road)
 
 -- a sound facility has totals
 pub totals_given : (f : Facility) (r : Result Sums Refusal) → sound f ≡ true → sums_told r ≡ totals_of f → IsOk r
@@ -86,6 +88,7 @@ pub shown_is : (f : Facility) (s : Sums) (lines : List (Option SegmentLine)) →
       partsteps = s.partsteps;
       origin = f.state.origin;
       lines = map line_shown lines;
+      partfeet = s.partfeet;
     }) (shown f)
 unfolding shown road_globals
 shown_is f s lines e h = rw (← e, h) refl

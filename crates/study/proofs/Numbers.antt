@@ -1,4 +1,4 @@
--- The numbers of a forecast: the first eight, then three for each line.
+-- The numbers of a forecast: the first nine, then four for each line.
 use Rattle.std.proofs.Common.{◌≡◌, ℕ, zero, suc, ◌+◌, ◌*◌, ◌≤◌, ◌<◌, refl, sym, ap, ◌∙◌, List, [], ◌∷◌, ◌++◌, length, drop, get_or, set, replicate, slice_index_or, arith, append-nil, Option, Ok}
 use Rattle.std.specs.Prelude.{map}
 use Rattle.std.proofs.lemmas.List.{length-map}
@@ -13,7 +13,7 @@ use Rattle.study.specs.Export.{line_numbers, listing_numbers, room, export_answe
 use Rattle.study.specs.Shown.{line_shown, told}
 use Rattle.study.proofs.Lines.{lines_length}
 
--- ---- every forecast has 64 lines, and so 200 numbers
+-- ---- every forecast has 64 lines, and so 265 numbers
 outcome_lines : (rules : Rules) (o : Outcome) → length (listing rules o).lines ≡ 64
 unfolding listed refused_listing
 outcome_lines rules (Ended b) = lines_length _ _
@@ -23,60 +23,62 @@ forecast_lines : (bytes : List ℕ) → length (forecast_of bytes).lines ≡ 64
 unfolding forecast_by
 forecast_lines bytes = outcome_lines present (outcome_by present bytes)
 
-line_count : (ls : List Line) → length (line_numbers ls) ≡ 3 * length ls
+line_count : (ls : List Line) → length (line_numbers ls) ≡ 4 * length ls
 unfolding line_numbers
 line_count [] = refl
 line_count (l ∷ ls) = omega (arith, line_count ls)
 
-pub two_hundred : (bytes : List ℕ) → length (listing_numbers (forecast_of bytes)) ≡ 200
+pub number_count : (bytes : List ℕ) → length (listing_numbers (forecast_of bytes)) ≡ room
 unfolding listing_numbers
-two_hundred bytes = omega (arith, line_count (forecast_of bytes).lines, forecast_lines bytes)
+number_count bytes = omega (arith, line_count (forecast_of bytes).lines, forecast_lines bytes)
 
 -- ---- a line more
 line_at : (ls : List (Option SegmentLine)) (i : ℕ) (d : Option SegmentLine) → i < length ls
-    → let l = line_shown (get_or ls i d) in drop (3 * i) (line_numbers (map line_shown ls)) ≡ l.n ∷ l.q ∷ l.letter ∷ line_numbers (map line_shown (drop (suc i) ls))
+    → let l = line_shown (get_or ls i d) in
+    drop (4 * i) (line_numbers (map line_shown ls)) ≡ l.n ∷ l.q ∷ l.letter ∷ l.partfeet ∷ line_numbers (map line_shown (drop (suc i) ls))
 unfolding line_numbers
 line_at [] i d h = absurd (omega arith)
 line_at (l ∷ ls) zero d h = refl
 line_at (l ∷ ls) (suc i) d h =
-    let e : 3 * suc i ≡ suc (suc (suc (3 * i))) = omega arith in
+    let e : 4 * suc i ≡ suc (suc (suc (suc (4 * i)))) = omega arith in
     rw e (line_at ls i d (omega arith))
 
-three_more : (w d : List ℕ) (k x y z : ℕ) (rest : List ℕ) → drop k w ≡ x ∷ y ∷ z ∷ rest → length w ≤ length d
-    → set (set (set (stored_to w d k) k x) (k + 1) y) (k + 2) z ≡ stored_to w d (k + 3)
-three_more w d k x y z rest e fits =
-    let one = store_rest w k x (y ∷ z ∷ rest) e in
-    let two = store_rest w (k + 1) y (z ∷ rest) one in
-    let at2 : k + 1 + 1 ≡ k + 2 = omega arith in
-    let at3 : k + 2 + 1 ≡ k + 3 = omega arith in
-    let more1 = store_more w k x (y ∷ z ∷ rest) e d fits in
-    let more2 : set (stored_to w d (k + 1)) (k + 1) y ≡ stored_to w d (k + 2) = store_more w (k + 1) y (z ∷ rest) one d fits ∙ ap (stored_to w d) at2 in
-    let next : drop (k + 2) w ≡ z ∷ rest = ap (λ (m : ℕ). drop m w) (sym at2) ∙ two in
-    ap (λ (l : List ℕ). set (set l (k + 1) y) (k + 2) z) more1 ∙ ap (λ (l : List ℕ). set l (k + 2) z) more2
-    ∙ store_more w (k + 2) z rest next d fits ∙ ap (stored_to w d) at3
+-- one number more, and then four
+one_more : (w d : List ℕ) (k next x : ℕ) (rest : List ℕ) → drop k w ≡ x ∷ rest → length w ≤ length d → k + 1 ≡ next
+    → (set (stored_to w d k) k x ≡ stored_to w d next) × (drop next w ≡ rest)
+one_more w d k next x rest e fits h =
+    (store_more w k x rest e d fits ∙ ap (stored_to w d) h, ap (λ (m : ℕ). drop m w) (sym h) ∙ store_rest w k x rest e)
+
+four_more : (w d : List ℕ) (k a b c v : ℕ) (rest : List ℕ) → drop k w ≡ a ∷ b ∷ c ∷ v ∷ rest → length w ≤ length d
+    → set (set (set (set (stored_to w d k) k a) (k + 1) b) (k + 2) c) (k + 3) v ≡ stored_to w d (k + 4)
+four_more w d k a b c v rest e fits =
+    let first = one_more w d k (k + 1) a (b ∷ c ∷ v ∷ rest) e fits refl in
+    let second = one_more w d (k + 1) (k + 2) b (c ∷ v ∷ rest) first.1 fits (omega arith) in
+    let third = one_more w d (k + 2) (k + 3) c (v ∷ rest) second.1 fits (omega arith) in
+    rw (first.0, second.0, third.0) (one_more w d (k + 3) (k + 4) v rest third.1 fits (omega arith)).0
 
 module _ (x : Shown) where
   -- the first numbers of x as they are, and zeros behind them
   abbrev pub put_to : ℕ → List ℕ
-  put_to k = stored_to (listing_numbers (told (Ok x))) (replicate 200 0) k
+  put_to k = stored_to (listing_numbers (told (Ok x))) (replicate room 0) k
 
-  all_length : length (listing_numbers (told (Ok x))) ≡ 200
+  all_length : length (listing_numbers (told (Ok x))) ≡ room
   unfolding listing_numbers
   all_length = omega (arith, line_count (map line_shown x.lines), length-map x.lines line_shown, x.room)
 
   pub put_more : (i : ℕ) (d : Option SegmentLine) → i < 64
-      → let k = 8 + 3 * i in let l = line_shown (get_or x.lines i d) in
-      set (set (set (put_to k) k l.n) (k + 1) l.q) (k + 2) l.letter ≡ put_to (8 + 3 * (i + 1))
+      → let k = 9 + 4 * i in let l = line_shown (get_or x.lines i d) in
+      set (set (set (set (put_to k) k l.n) (k + 1) l.q) (k + 2) l.letter) (k + 3) l.partfeet ≡ put_to (9 + 4 * (i + 1))
   unfolding listing_numbers
   put_more i d h =
-      let k = 8 + 3 * i in
+      let k = 9 + 4 * i in
       let w = listing_numbers (told (Ok x)) in
-      let next = sym (drop-drop (3 * i) 8 w) ∙ line_at x.lines i d (omega (arith, x.room)) in
-      let end : k + 3 ≡ 8 + 3 * (i + 1) = omega arith in
-      three_more w (replicate 200 0) k _ _ _ _ next (omega (arith, all_length)) ∙ ap put_to end
+      let next = sym (drop-drop (4 * i) 9 w) ∙ line_at x.lines i d (omega (arith, x.room)) in
+      let end : k + 4 ≡ 9 + 4 * (i + 1) = omega arith in
+      four_more w (replicate room 0) k _ _ _ _ _ next (omega (arith, all_length)) ∙ ap put_to end
 
-  pub put_all : put_to 200 ≡ listing_numbers (told (Ok x))
-  put_all = ap (λ (m : List ℕ). m ++ []) (take_all 200 (listing_numbers (told (Ok x))) (omega (arith, all_length))) ∙ append-nil _
+  pub put_all : put_to room ≡ listing_numbers (told (Ok x))
+  put_all = ap (λ (m : List ℕ). m ++ []) (take_all room (listing_numbers (told (Ok x))) (omega (arith, all_length))) ∙ append-nil _
 
 -- ---- the export
 pub too_short : (study out : List ℕ) → length out < room → (7 ≡ export_answer study out) × (out ≡ export_into study out)

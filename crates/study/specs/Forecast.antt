@@ -1,18 +1,19 @@
--- Document 01, "Merges, splits and a worked study", the program `forecast`: a whole study, from the bytes of its file to what the listing
--- shows, by the ledger alone.
+-- Document 01, "Merges, splits and a worked study", the program `forecast`, and document 02, Q-7, part-feet: a whole study, from the bytes of its file
+-- to what the listing shows, by the ledger alone.
 use Rattle.std.specs.Prelude.{ℕ, zero, suc, ◌+◌, List, length, drop, replicate, ltb, if◌then◌else◌}
 use Rattle.numbers.specs.Row.{Rows, ReadRow, RefusedAt}
 use Rattle.sheets.specs.Read.{read_road, padded}
 use Rattle.conditions.specs.Conditions.{segments}
 use Rattle.steps.specs.Step.{replaced, stored_of}
 use Rattle.letters.specs.Level.{letter_byte}
-use Rattle.facility.specs.Ledger.{Take, Run, Report, Answer, Refused, Taken, Ran, Reported, Summed, state_after, arrived_in, left_in, partsteps_in, Book, opened, Rules, present, answer_by, after_by}
+use Rattle.facility.specs.Ledger.{Take, Run, Report, Answer, Refused, Taken, Ran, Reported, Summed, state_after, arrived_in, left_in, partsteps_in, driven_in, Book, opened, Rules, present, answer_by, after_by}
 
--- a segment's line: n, q and the byte of the level letter
+-- a segment's line: n, q, the byte of the level letter, and the part-feet
 pub record Line : Type 0 where
   pub n : ℕ
   pub q : ℕ
   pub letter : ℕ
+  pub partfeet : ℕ
 
 -- all that the listing shows, or a refusal's number with its place in the file
 pub record Listing : Type 0 where
@@ -25,24 +26,26 @@ pub record Listing : Type 0 where
   pub partsteps : ℕ
   pub origin : ℕ
   pub lines : List Line
+  pub partfeet : ℕ
 
 -- past the last segment, and beside a refusal
 abbrev pub no_line : Line
-no_line = record { n = 0; q = 0; letter = 0 }
+no_line = record { n = 0; q = 0; letter = 0; partfeet = 0 }
 
--- a line of the listing: n, q and the letter, as a segment report has them
+-- a line of the listing: n, q, the letter and the part-feet, as a segment report has them
 abbrev pub line_of : Answer → Line
-line_of (Reported figures level tally) = record { n = figures.n; q = figures.q; letter = letter_byte level }
+line_of (Reported figures level tally partfeet) = record { n = figures.n; q = figures.q; letter = letter_byte level; partfeet = partfeet }
 line_of (Refused number offset) = no_line
 line_of (Taken used) = no_line
 line_of Ran = no_line
-line_of (Summed arrived left stored partsteps) = no_line
+line_of (Summed arrived left stored partsteps partfeet) = no_line
 
 -- the lines of so many segments, counted from 0, and zeros after them
 unfoldable pub lines_by : (ℕ → Line) → ℕ → List Line
 lines_by line segments = replaced line segments (replicate 64 no_line)
 
--- "arrived, left, stored, part-steps, origin (o), then segment, n, q, letter"
+-- "arrived, left, stored, part-steps, origin (o), then segment, n, q, letter"; each line "gains, after the letter, its part-feet", and "a last line
+-- `partfeet` prints the facility's total"
 unfoldable pub listed : Rules → Book → Listing
 listed rules b = record {
   refusal = 0;
@@ -54,6 +57,7 @@ listed rules b = record {
   partsteps = partsteps_in b.trail;
   origin = (state_after b.trail).origin;
   lines = lines_by (λ i. line_of (answer_by rules b (Report (i + 1)))) (segments b.road);
+  partfeet = driven_in b.trail;
 }
 
 -- "a refused study prints only refused, the number and the place in the file"
@@ -68,6 +72,7 @@ refused_listing number place = record {
   partsteps = 0;
   origin = 0;
   lines = replicate 64 no_line;
+  partfeet = 0;
 }
 
 -- what a study comes to: the book at its end, or a refusal's number and its place in the file
@@ -85,8 +90,8 @@ abbrev pub after_sheet : Answer → ℕ → (ℕ → Outcome) → Outcome
 after_sheet (Taken used) at on = on (at + used)
 after_sheet (Refused number offset) at on = RefusedStudy number (at + offset)
 after_sheet Ran at on = on at
-after_sheet (Reported figures level tally) at on = on at
-after_sheet (Summed arrived left stored partsteps) at on = on at
+after_sheet (Reported figures level tally partfeet) at on = on at
+after_sheet (Summed arrived left stored partsteps partfeet) at on = on at
 
 -- "60 steps to a 15-minute period"
 abbrev pub whole : ℕ

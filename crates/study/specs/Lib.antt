@@ -1,3 +1,4 @@
 pub mod Forecast
+pub mod Foot
 pub mod Shown
 pub mod Export

@@ -14,7 +14,7 @@ use Rattle.study.specs.Forecast.{Line, Listing, no_line, refused_listing, line_o
 
 -- the code's line, of a segment or of none
 abbrev pub line_shown : Option SegmentLine → Line
-line_shown (Some l) = record { n = l.n; q = l.q; letter = letter_byte l.level }
+line_shown (Some l) = record { n = l.n; q = l.q; letter = letter_byte l.level; partfeet = l.partfeet }
 line_shown None = no_line
 
 -- the code's forecast: what the listing shows, or a refusal
@@ -29,6 +29,7 @@ told (Ok x) = record {
   partsteps = x.totals.partsteps;
   origin = x.origin;
   lines = map line_shown x.lines;
+  partfeet = x.totals.partfeet;
 }
 told (Err e) = refused_listing (refusal_number e.refusal) e.offset
 
@@ -47,6 +48,7 @@ shown f = record {
   partsteps = (totals_of f).partsteps;
   origin = f.state.origin;
   lines = lines_by (line_at f) (segments f.road);
+  partfeet = (totals_of f).partfeet;
 }
 
 -- what a taking of the sheet at a place of the bytes gives is a reply: where the sheet ends, or its refusal, by their places in the bytes

@@ -27,6 +27,7 @@ fn line_at(f: &Facility, i: u32) -> Option<Line>
         n: report.n,
         q: report.q,
         level: report.level,
+        partfeet: report.partfeet,
     })
 }
 

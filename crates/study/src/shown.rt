@@ -11,6 +11,7 @@ pub struct Line {
     pub n: u32,
     pub q: u32,
     pub level: Level,
+    pub partfeet: u64,
 }
 
 // The segments, the totals, the mainline queue before node 1 and the segments' lines; past the last segment there is none.

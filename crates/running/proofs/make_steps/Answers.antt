@@ -1,7 +1,7 @@
 -- The conditions once, then the steps in turn.
 use mathlib.Core.Path.{◌∙◌}
 use native.Mathlib.Omega.{arith}
-use Rattle.running.proofs.Loop.{road_good, sheet_good, filled, turn_start, turn_bounds, turn_tallies, turn_fits, turned, turn_end}
+use Rattle.running.proofs.Loop.{road_good, sheet_good, force_good, filled, turn_start, turn_bounds, turn_tallies, turn_fits, turned, end_tallies, end_partfeet, turn_end}
 use Rattle.running.proofs.make_steps.Goals as goal
 
 pub work_out-conditions-requires : goal.work_out-conditions-requires
@@ -53,5 +53,18 @@ loop-preserved c =
     (rw e at c.step-leaves.ensures.0) (rw e at c.step-leaves.ensures.1) (c.from.ensures ∙ rw e at c.step-leaves.ensures.2)
     (c.from-arrives.ensures ∙ rw e at c.arrived.ensures) c.saturating_sub.ensures
 
+pub drive-requires : goal.drive-requires
+drive-requires c =
+    let p = c.requires in
+    let e = filled _ _ p _ c.work_out-conditions.ensures in
+    record {
+      tallies_bounded = rw e (end_tallies _ _ p _ _ c.loop.invariant);
+      partfeet_bounded = rw e (end_partfeet _ _ p _ _ c.loop.invariant);
+    }
+
 pub returns : goal.returns
-returns c = turn_end _ _ c.requires _ _ c.loop.invariant c.loop-test.false
+returns c =
+    let p = c.requires in
+    let e = filled _ _ p _ c.work_out-conditions.ensures in
+    let few = (force_good _ _ p).segments.1 in
+    turn_end _ _ p _ _ c.loop.invariant c.loop-test.false (omega (arith, few)) (omega (arith, few)) (omega (arith, few)) _ (rw e at c.drive.ensures)
