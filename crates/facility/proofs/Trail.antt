@@ -21,7 +21,7 @@ use Rattle.steps.specs.Tallies.{tallied}
 use Rattle.steps.specs.Driven.{driven}
 use Rattle.steps.specs.Bounded.{Bounded, BoundedTallies, BoundedPartfeet}
 use Rattle.steps.proofs.Tallies.{tallied_bounded, bounded_fresh as tallies_fresh}
-use Rattle.steps.proofs.Driven.{driven_bounded, partfeet_fresh}
+use Rattle.steps.proofs.Driven.{bounded_driven, partfeet_fresh}
 use Rattle.steps.proofs.Laws.{stepped_length}
 use Rattle.steps.proofs.Bounds.{bounded_after, bounded_fresh, cell_fresh, arrived_most, left_most}
 use Rattle.steps.proofs.Claims.{stepped_holds}
@@ -76,7 +76,7 @@ module _ (road : List ℕ) (good : GoodRoad road) where
       let balance : arrived_in t + arrived_of c ≡ left_in t + left_of c.segments (stepped c state) + stored_of c.segments (stepped c state) =
       omega (arith, holds.balanced) in
       let counted = tallied_bounded c state (tallies_of (segments road) t) force bounds (rw n k.tallies) in
-      let feet = driven_bounded c state long (length t) (partfeet_kept (segments road) t) force (rw n k.partfeet) in
+      let feet = bounded_driven c state long (length t) (partfeet_kept (segments road) t) force (rw n k.partfeet) in
       record {
         right = and holds k.right;
         on_road = and (on_road road sheet t) k.on_road;

@@ -74,10 +74,10 @@ module _ (c : Conditions) (state : State) (cells : c.segments ≤ length state.c
   gained_more before tallies long i h l = rw (tallied_at c state tallies cells long i h) (with_more _ _ _ _ l)
 
   -- and the part-feet stay within all steps' at the largest C × L
-  pub driven_bounded : (t : ℕ) (partfeet : List ℕ) → GoodConditions c → BoundedPartfeet c.segments t partfeet
+  pub bounded_driven : (t : ℕ) (partfeet : List ℕ) → GoodConditions c → BoundedPartfeet c.segments t partfeet
       → BoundedPartfeet c.segments (t + 1) (driven c (stepped c state) partfeet)
   unfolding driven driven_at moved_of
-  driven_bounded t partfeet good so_far = λ i h.
+  bounded_driven t partfeet good so_far = λ i h.
       let out = let_out (in_force_at c i) (cell_in state i) (main_flow_at c state (suc i)) in
       let most : (cell_in (stepped c state) i).out ≤ 20000 = rw (stepped_cell c state cells i h) (omega (arith, out, (good.place i h).capacity)) in
       let feet : (cell_in (stepped c state) i).out * (in_force_at c i).length ≤ 20000 * 26400 = mul-le-mul most (good.place i h).length.1 in
