@@ -10,9 +10,8 @@ fn main() {
         println!("cargo::rerun-if-changed={}", library.display());
         if !library.exists() {
             println!("cargo::error=the engine's library target/staticlib/lib{name}.a is missing");
-            println!(
-                "cargo::error=make it first: run `./build study_c convert_c timing calls planning_check` in the repository's root"
-            );
+            println!("cargo::error=make it first: in the repository's root run");
+            println!("cargo::error=./build study_c convert_c timing calls planning_check letters_check");
         }
         println!("cargo::rustc-link-lib=static={name}");
     }

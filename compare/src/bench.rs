@@ -1,11 +1,15 @@
 //! The benchmark: the engine against the idiomatic and the tuned version, how the costs grow, and what one call costs. Only ratios
 //! are printed.
 
+use crate::engine::Segments;
+use crate::model::facility::Facility;
 use crate::model::numbers;
+use crate::model::sheets::Entry;
 use crate::outcome::Outcome;
 use crate::outcome::NUMBERS;
 use crate::random::Random;
 use crate::{compare, engine, idiomatic, model, tuned};
+use std::array::from_fn;
 use std::hint::black_box;
 use std::time::Instant;
 
@@ -14,12 +18,14 @@ const ROUNDS: usize = 51;
 const RUNS: usize = 5;
 const MOST_SEGMENTS: u64 = 64;
 const MOST_PERIODS: u64 = 96;
-const REPORTS: u32 = 6_400;
+const REPORTS: u32 = 19_200;
+const LETTERS: u32 = 64_000;
 
 /// Demand through the day, in percent of the usual.
 const LOAD: [u64; 18] = [30, 35, 45, 70, 95, 110, 100, 75, 60, 55, 60, 80, 105, 115, 90, 60, 45, 35];
 
-/// The place of its largest.
+/// Its places of a quiet hour, with every lane open, and of the largest demand.
+const QUIET: usize = 9;
 const PEAK: usize = 13;
 
 /// Lanes are closed where the load is below this.
@@ -52,7 +58,39 @@ pub fn run() -> bool {
     growth(&[8, 16, 32, 64].map(|ns| (ns, study(ns, MOST_PERIODS, Ramps::Everywhere))));
     println!("cost by periods, {MOST_SEGMENTS} segments, as ratio to the first: engine, tuned Rust");
     growth(&[12, 24, 48, 96].map(|periods| (periods, study(MOST_SEGMENTS, periods, Ramps::Everywhere))));
-    single_calls()
+    single_calls() && letters()
+}
+
+/// Times all letters of a road by the walk in use and by the one before it, after a period under a quiet sheet and under a peak sheet;
+/// false where they differ from the model's.
+fn letters() -> bool {
+    println!("{MOST_SEGMENTS} letters: by the walk in use / by the walk before it");
+    let sheets = sheets(MOST_SEGMENTS, LOAD.len() as u64, Ramps::Everywhere);
+    [("quiet sheet", QUIET), ("peak sheet", PEAK)].into_iter().all(|(name, hour)| {
+        let (segments, sum) = segments_after(&[&sheets[0][..], &sheets[1 + hour]].concat());
+        let sum = u64::from(LETTERS) / MOST_SEGMENTS * sum;
+        let same = engine::letters(&segments, LETTERS) == sum && engine::letters_before(&segments, LETTERS) == sum;
+        if same {
+            let letters = || _ = black_box(engine::letters(black_box(&segments), LETTERS));
+            ratio(name, letters, || _ = black_box(engine::letters_before(black_box(&segments), LETTERS)), 1.0);
+        } else {
+            println!("the letters differ");
+        }
+        same
+    })
+}
+
+/// What the letters of the segments reckon with after a study that leaves every lane open, and the sum of the letters' bytes.
+fn segments_after(study: &[u8]) -> (Segments, u64) {
+    let facility = model::run::<Entry>(study).expect("it is a study");
+    let reports: Vec<_> = (1..=MOST_SEGMENTS).filter_map(|i| facility.report(i).ok()).collect();
+    let road = &facility.road().segments;
+    let segments = Segments {
+        n: from_fn(|i| reports[i].n as u32),
+        length: from_fn(|i| road[i].length as u32),
+        lanes: from_fn(|i| road[i].lanes as u32),
+    };
+    (segments, reports.iter().map(|report| u64::from(report.letter)).sum())
 }
 
 /// Times single calls under the sheet of the day's peak; false where the two sides' answers differ. To the tuned version steps one by
@@ -62,23 +100,47 @@ fn single_calls() -> bool {
     let (road, period) = (&sheets[0], &sheets[1 + PEAK]);
     let one = [&road[..], period].concat();
     let all = [&road[..], &period.repeat(MOST_PERIODS as usize)].concat();
-    let part_steps = engine::single_steps(road, period, MOST_PERIODS as u32);
+    let stepped = |reports: u8| engine::single_steps(black_box(road), period, MOST_PERIODS as u32, reports);
+    let part_steps = stepped(0).part_steps;
     let same_steps = matches!(tuned::forecast(&all), Outcome::Forecast(forecast) if forecast.part_steps == part_steps);
-    if !same_steps || engine::reports(road, period, REPORTS) != tuned::reports(&one, REPORTS as usize) {
+    let shown = engine::single_steps(road, period, 1, MOST_SEGMENTS as u8).letters;
+    let same_reports = engine::reports(road, period, REPORTS) == tuned::reports(&one, REPORTS as usize)
+        && shown == letters_shown(road, period)
+        && stepped(MOST_SEGMENTS as u8).part_steps == part_steps;
+    if !same_steps || !same_reports {
         println!("the answers of single calls differ");
         return false;
     }
     println!("one call, {MOST_SEGMENTS} segments, under a peak sheet: engine / tuned Rust");
     // so many reports that the period before them hardly counts: the tuned version's are short
     let often = 100;
-    let engine_reports = || _ = black_box(engine::reports(black_box(road), period, REPORTS));
+    let reports = || _ = black_box(engine::reports(black_box(road), period, REPORTS));
     let tuned_reports = || _ = black_box(tuned::reports(black_box(&one), often * REPORTS as usize));
-    ratio("segment report", engine_reports, tuned_reports, often as f64);
-    let steps = || _ = black_box(engine::single_steps(black_box(road), period, MOST_PERIODS as u32));
+    ratio("segment report", reports, tuned_reports, often as f64);
+    let steps = || _ = black_box(stepped(0));
     ratio("run of 1 step", steps, || run_other(&all, tuned::forecast), 1.0);
     println!("one call of the engine: run of 1 step / a 60th of a run of 60");
     ratio("run of 1 step", steps, || run_engine(&all), 1.0);
+    println!(
+        "calls of the engine / its run of 1 step: reports each by themselves; the run with reports in a loop behind it"
+    );
+    let runs = MOST_PERIODS as f64 * 60.0;
+    ratio("64 reports", reports, steps, runs * MOST_SEGMENTS as f64 / f64::from(REPORTS));
+    let wall = || _ = black_box(stepped(MOST_SEGMENTS as u8));
+    ratio("run, 64 in a loop", wall, steps, 1.0);
     true
+}
+
+/// The letters that the model reports of all segments after each step of a period on a road just laid: the sum of their bytes.
+fn letters_shown(road: &[u8], period: &[u8]) -> u64 {
+    let (mut facility, _) = Facility::<Entry>::lay(road).expect("it is a road");
+    facility.take(period).expect("it is a period of the road");
+    let step = |_| {
+        facility.run(1).expect("60 steps remain at first");
+        let letter = |i| facility.report(i).map_or(0, |report| u64::from(report.letter));
+        (1..=MOST_SEGMENTS).map(letter).sum::<u64>()
+    };
+    (0..60).map(step).sum()
 }
 
 type Forecast = fn(&[u8]) -> Outcome;

@@ -1,6 +1,7 @@
 //! The comparison: many random studies, each given to the engine, to the model, to the idiomatic and to the tuned version.
 
 pub mod conversions;
+pub mod letters;
 pub mod lists;
 pub mod plans;
 mod program;

@@ -9,19 +9,56 @@ extern "C" {
     fn freeway_to_second(study: *const u8, len: usize, target: *mut u8, target_len: usize, count: *mut u64) -> u64;
     fn freeway_to_first(study: *const u8, len: usize, target: *mut u8, target_len: usize, count: *mut u64) -> u64;
     fn freeway_time_reports(road: *const u8, road_len: usize, period: *const u8, period_len: usize, times: u32) -> u64;
-    fn freeway_time_steps(road: *const u8, road_len: usize, period: *const u8, period_len: usize, periods: u32) -> u64;
+    fn freeway_time_steps(
+        road: *const u8,
+        road_len: usize,
+        period: *const u8,
+        period_len: usize,
+        periods: u32,
+        reports: u8,
+    ) -> Timed;
+    fn freeway_time_letters(segments: *const Segments, times: u32) -> u64;
+    fn freeway_time_letters_before(segments: *const Segments, times: u32) -> u64;
 }
 
-/// Runs a period, then reports so many times, on the segments 1 to 64 in turn: the sum of their n.
+/// What the letters of 64 segments reckon with.
+#[repr(C)]
+pub struct Segments {
+    pub n: [u32; 64],
+    pub length: [u32; 64],
+    pub lanes: [u32; 64],
+}
+
+/// So many letters of the segments in turn, by the walk in use: the sum of their bytes.
+pub fn letters(segments: &Segments, times: u32) -> u64 {
+    // Sound: the segments are lent for the call alone, and only read.
+    unsafe { freeway_time_letters(segments, times) }
+}
+
+/// The same by the walk before it.
+pub fn letters_before(segments: &Segments, times: u32) -> u64 {
+    // Sound: as above.
+    unsafe { freeway_time_letters_before(segments, times) }
+}
+
+/// Runs a period, then reports so many times, on the segments 1 to 64 in turn: the sum of their letters' bytes.
 pub fn reports(road: &[u8], period: &[u8], times: u32) -> u64 {
     // Sound: both slices are valid for their lengths, and the engine keeps neither.
     unsafe { freeway_time_reports(road.as_ptr(), road.len(), period.as_ptr(), period.len(), times) }
 }
 
-/// So many times takes the period and makes its steps one by one: the part-steps.
-pub fn single_steps(road: &[u8], period: &[u8], periods: u32) -> u64 {
+/// What timed steps come to: the part-steps, and the letters that were reported, summed up as their bytes.
+#[repr(C)]
+pub struct Timed {
+    pub part_steps: u64,
+    pub letters: u64,
+}
+
+/// So many times takes the period and makes its steps one by one, with so many reports after each step, on the segments 1 to
+/// 64 in turn.
+pub fn single_steps(road: &[u8], period: &[u8], periods: u32, reports: u8) -> Timed {
     // Sound: as above.
-    unsafe { freeway_time_steps(road.as_ptr(), road.len(), period.as_ptr(), period.len(), periods) }
+    unsafe { freeway_time_steps(road.as_ptr(), road.len(), period.as_ptr(), period.len(), periods, reports) }
 }
 
 /// Runs a study: fills the first 265 places of `out` and gives the refusal's number, 0 for none.

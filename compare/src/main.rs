@@ -1,4 +1,4 @@
-//! Compares the forecast engine and its planning sheet with an independent model of documents 01 and 02 (Q-1 to Q-7), and times it
+//! Compares the forecast engine and its planning sheet with an independent model of documents 01 and 02 (Q-1 to Q-8), and times it
 //! against two versions in Rust.
 
 mod bench;
@@ -20,8 +20,9 @@ const SEED: u64 = 1;
 const COUNT: u64 = 300_000;
 
 const USAGE: &str = "arguments:
-  [SEED [COUNT]]         compare random studies, then conversions of as many of either layout, then as many answers to lists of
-                         calls, then as many planning sheets
+  [SEED [COUNT]]         compare random studies, then conversions of as many of either layout, then as many level letters, then as
+                         many answers to lists of calls, then as many planning sheets
+  letters [SEED [COUNT]] compare level letters of random segments alone
   lists [SEED [COUNT]]   compare answers to random lists of calls alone
   sheets [SEED [COUNT]]  compare random planning sheets alone
   check [FOLDER..]       check studies and their listings (../studies, ../studies/first), traces, lists of calls, conversions;
@@ -35,6 +36,7 @@ fn main() -> ExitCode {
         [] => check(&[]) && compare(SEED, COUNT),
         ["bench"] => bench::run(),
         ["check", ref folders @ ..] => check(folders),
+        ["letters", ref numbers @ ..] => by_numbers(numbers, compare::letters::run),
         ["lists", ref numbers @ ..] => by_numbers(numbers, compare::lists::run),
         ["sheets", ref numbers @ ..] => by_numbers(numbers, compare::plans::run),
         ref numbers => by_numbers(numbers, compare),
@@ -56,13 +58,15 @@ fn by_numbers(words: &[&str], compare: fn(u64, u64) -> bool) -> bool {
     }
 }
 
-/// Compares the forecasts of so many studies, then the conversions of as many of either layout, then as many answers to calls, then
-/// as many planning sheets.
+/// Compares the forecasts of so many studies, then the conversions of as many of either layout, then as many level letters, then as
+/// many answers to calls, then as many planning sheets.
 fn compare(seed: u64, count: u64) -> bool {
-    compare::lists::PROGRAM.is_made()
+    compare::letters::PROGRAM.is_made()
+        && compare::lists::PROGRAM.is_made()
         && compare::plans::PROGRAM.is_made()
         && compare::run(seed, count)
         && compare::conversions::run(seed, count)
+        && compare::letters::run(seed, count)
         && compare::lists::run(seed, count)
         && compare::plans::run(seed, count)
 }

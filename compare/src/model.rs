@@ -1,6 +1,6 @@
-//! A model of documents 01 and 02 (Q-1, closed lanes; Q-2, conversion; Q-3, the split's remainder; Q-4, the off-ramp's total; Q-5,
-//! a sheet repeated by no bytes; Q-6, no section faster than free flow; Q-7, part-feet), written from the documents alone and for
-//! reading, not for speed.
+//! A model of documents 01 and 02 (Q-1, closed lanes; Q-2, conversion; Q-3, the split's remainder; Q-4, the off-ramp's total;
+//! Q-5, a sheet repeated by no bytes; Q-6, no section faster than free flow; Q-7, part-feet; Q-8 changes no answer), written from
+//! the documents alone and for reading, not for speed.
 
 pub mod convert;
 pub mod facility;

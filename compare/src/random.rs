@@ -1,6 +1,7 @@
 //! Random studies of either layout: valid ones of every size, and ones damaged in every way that a refusal speaks of.
 
 pub mod calls;
+pub mod letters;
 pub mod plans;
 
 use crate::model::numbers;

@@ -19,11 +19,11 @@ pub fn forecast(study: &[u8]) -> Outcome {
     }
 }
 
-/// Runs a study, then reports so many times, on its segments in turn: the sum of their n.
+/// Runs a study, then reports so many times, on its segments in turn: the sum of their letters' bytes.
 pub fn reports(study: &[u8], times: usize) -> u64 {
     let Ok(facility) = run(study) else { return 0 };
-    let report = |i: usize| black_box(black_box(&facility.segments[i % facility.segments.len()]).report()).0.n;
-    (0..times).map(report).sum()
+    let report = |i: usize| black_box(black_box(&facility.segments[i % facility.segments.len()]).report()).0.letter;
+    (0..times).map(|i| u64::from(report(i))).sum()
 }
 
 /// Both totals of each segment of a study, none where it is refused.

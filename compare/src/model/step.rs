@@ -192,7 +192,13 @@ pub fn part_feet(road: &Road, flows: &Flows) -> Vec<u64> {
 
 /// The level letter of a segment that holds n.
 pub fn letter(segment: &Segment, n: u64) -> u8 {
-    letter_by(|limit| 22 * n <= limit * segment.length * segment.lanes)
+    letter_of(n, segment.length, segment.lanes)
+}
+
+/// The level letter of n parts over so many feet and lanes, by vehicles per mile per lane: 240 parts are a vehicle, 5,280 ft a mile.
+pub fn letter_of(n: u64, length: u64, lanes: u64) -> u8 {
+    let [n, length, lanes] = [n, length, lanes].map(u128::from);
+    letter_by(|limit| 5_280 * n <= u128::from(limit) * length * lanes * 240)
 }
 
 /// The letter of the first limit, in vehicles per mile per lane, that something is within.

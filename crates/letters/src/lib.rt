@@ -1,7 +1,7 @@
 // The level letter of a segment, and the grading by the letters' limits that a facility's letter goes by too.
 #![tactic(auto)]
 
-ghost use Rattle.std.specs.Prelude.{◌≡◌, ◌∷◌, [], ℕ, Bool, Some, ◌<◌};
+ghost use Rattle.std.specs.Prelude.{◌≡◌, ◌∷◌, [], ℕ, Bool, false, Some, ◌*◌, ◌<◌};
 ghost use Rattle.letters.specs.Level.{graded, holds_at_most, level_of, letter_byte};
 
 use std::fmt;
@@ -18,14 +18,12 @@ pub enum Level {
     F,
 }
 
-// The letter of what is graded, by whether it is within a limit: A within 11, then B, C, D, E within 18, 26, 35, 45, else F.
-pub fn graded<F: Fn(u8) -> bool>(within: F) -> Level
+// The letter of what is not within 11: B within 18, then C, D, E within 26, 35, 45, else F.
+fn past_a<F: Fn(u8) -> bool>(within: F) -> Level
     requires { F.IsAlwaysCallable within }
-    ensures { (tells : ℕ → Bool) → ((limit : ℕ) (r : Bool) → limit < 256 → F.post within limit r → r ≡ tells limit) → result ≡ graded tells }
+    ensures { (tells : ℕ → Bool) → ((limit : ℕ) (r : Bool) → limit < 256 → F.post within limit r → r ≡ tells limit) → tells 11 ≡ false → result ≡ graded tells }
 {
-    if within(11) {
-        Level::A
-    } else if within(18) {
+    if within(18) {
         Level::B
     } else if within(26) {
         Level::C
@@ -38,23 +36,29 @@ pub fn graded<F: Fn(u8) -> bool>(within: F) -> Level
     }
 }
 
-// Whether 22 × n is at most the limit × the area. The product stops at the largest number of 64 bits, which 22 × n is below.
-#[tactic(auto, unfolding(crate::specs::Level::holds_at_most))]
-fn holds_at_most(limit: u8, n: u32, area: u64) -> bool
-    ensures { result ≡ holds_at_most limit n area }
+// The letter of what is graded, by whether it is within a limit: A within 11, then B, C, D, E within 18, 26, 35, 45, else F.
+pub fn graded<F: Fn(u8) -> bool>(within: F) -> Level
+    requires { F.IsAlwaysCallable within }
+    ensures { (tells : ℕ → Bool) → ((limit : ℕ) (r : Bool) → limit < 256 → F.post within limit r → r ≡ tells limit) → result ≡ graded tells }
 {
-    22 * u64::from(n) <= u64::from(limit).saturating_mul(area)
+    if within(11) { Level::A } else { past_a(within) }
 }
 
-// The level letter of a segment that holds n parts.
+// The level letter of a segment that holds n parts. 22 × n is at most 11 × the area exactly where 2 × n is at most the area, and past
+// that all products fit.
+#[tactic(auto, unfolding(crate::specs::Level::holds_at_most))]
 pub fn level_of(n: u32, length: u32, lanes: u32) -> Level
     ensures { result ≡ level_of n length lanes }
 {
     let area = u64::from(length) * u64::from(lanes);
-    graded(
+    if 2 * u64::from(n) <= area {
+        return Level::A;
+    }
+    past_a(
         |limit: u8| -> bool
+            requires { area < 2 * n }
             ensures { result ≡ holds_at_most limit n area }
-        { holds_at_most(limit, n, area) },
+        { 22 * u64::from(n) <= u64::from(limit) * area },
     )
 }
 

@@ -1,5 +1,5 @@
--- What the closure told of each limit that was asked.
-use native.Mathlib.Omega.{arith}
+-- What the closure told of the first limit.
+use Rattle.std.proofs.Common.{sym, arith}
 use Rattle.letters.specs.Level.{graded}
 use Rattle.letters.proofs.graded.Goals as goal
 
@@ -7,22 +7,5 @@ pub returns-then-within : goal.returns-then-within
 unfolding graded
 returns-then-within g c tells h = simp (← h _ _ (omega arith) c.if-within.ensures)
 
-pub returns-then-within-2 : goal.returns-then-within-2
-unfolding graded
-returns-then-within-2 g c tells h = simp (← h _ _ (omega arith) c.if-within.ensures, ← h _ _ (omega arith) c.if-within-2.ensures)
-
-pub returns-then-within-3 : goal.returns-then-within-3
-unfolding graded
-returns-then-within-3 g c tells h = simp (← h _ _ (omega arith) c.if-within.ensures, ← h _ _ (omega arith) c.if-within-2.ensures, ← h _ _ (omega arith) c.if-within-3.ensures)
-
-pub returns-then-within-4 : goal.returns-then-within-4
-unfolding graded
-returns-then-within-4 g c tells h = simp (← h _ _ (omega arith) c.if-within.ensures, ← h _ _ (omega arith) c.if-within-2.ensures, ← h _ _ (omega arith) c.if-within-3.ensures, ← h _ _ (omega arith) c.if-within-4.ensures)
-
-pub returns-then-within-5 : goal.returns-then-within-5
-unfolding graded
-returns-then-within-5 g c tells h = simp (← h _ _ (omega arith) c.if-within.ensures, ← h _ _ (omega arith) c.if-within-2.ensures, ← h _ _ (omega arith) c.if-within-3.ensures, ← h _ _ (omega arith) c.if-within-4.ensures, ← h _ _ (omega arith) c.if-within-5.ensures)
-
-pub returns : goal.returns
-unfolding graded
-returns g c tells h = simp (← h _ _ (omega arith) c.if-within.ensures, ← h _ _ (omega arith) c.if-within-2.ensures, ← h _ _ (omega arith) c.if-within-3.ensures, ← h _ _ (omega arith) c.if-within-4.ensures, ← h _ _ (omega arith) c.if-within-5.ensures)
+pub returns-else-within : goal.returns-else-within
+returns-else-within g c tells h = c.past_a.ensures tells h (sym (h _ _ (omega arith) c.if-within.ensures))
