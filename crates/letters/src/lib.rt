@@ -2,7 +2,7 @@
 #![tactic(auto)]
 
 ghost use Rattle.std.specs.Prelude.{◌≡◌, ◌∷◌, [], ℕ, Bool, false, Some, ◌*◌, ◌<◌};
-ghost use Rattle.letters.specs.Level.{graded, holds_at_most, level_of, letter_byte};
+ghost use Rattle.letters.specs.Level.{graded, holds_at_most, level_by, level_of, letter_byte};
 
 use std::fmt;
 use std::fmt::Write;
@@ -44,9 +44,21 @@ pub fn graded<F: Fn(u8) -> bool>(within: F) -> Level
     if within(11) { Level::A } else { past_a(within) }
 }
 
-// The level letter of a segment that holds n parts. 22 × n is at most 11 × the area exactly where 2 × n is at most the area, and past
-// that all products fit.
+// The level letter of n parts in an area that is below 2 × n, which is past A. All products fit.
 #[tactic(auto, unfolding(crate::specs::Level::holds_at_most))]
+fn level_past_a(n: u32, area: u64) -> Level
+    requires { area < 2 * n }
+    ensures { result ≡ level_by n area }
+{
+    past_a(
+        |limit: u8| -> bool
+            requires { area < 2 * n }
+            ensures { result ≡ holds_at_most limit n area }
+        { 22 * u64::from(n) <= u64::from(limit) * area },
+    )
+}
+
+// The level letter of a segment that holds n parts. 22 × n is at most 11 × the area exactly where 2 × n is at most the area.
 pub fn level_of(n: u32, length: u32, lanes: u32) -> Level
     ensures { result ≡ level_of n length lanes }
 {
@@ -54,12 +66,7 @@ pub fn level_of(n: u32, length: u32, lanes: u32) -> Level
     if 2 * u64::from(n) <= area {
         return Level::A;
     }
-    past_a(
-        |limit: u8| -> bool
-            requires { area < 2 * n }
-            ensures { result ≡ holds_at_most limit n area }
-        { 22 * u64::from(n) <= u64::from(limit) * area },
-    )
+    level_past_a(n, area)
 }
 
 // The letter's byte.

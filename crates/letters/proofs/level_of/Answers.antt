@@ -1,7 +1,7 @@
--- The letter that is settled before the walk, and what the closure told of a limit in the walk.
+-- The letter that is settled before the walk, and that of the walk.
 use Rattle.std.proofs.Common.{◌*◌, ◌≡◌, sym, arith}
-use Rattle.letters.specs.Level.{level_of, level_by, holds_at_most}
-use Rattle.letters.proofs.Settled.{settled, unsettled}
+use Rattle.letters.specs.Level.{level_of}
+use Rattle.letters.proofs.Settled.{settled}
 use Rattle.letters.proofs.level_of.Goals as goal
 
 pub returns-then-from-area : goal.returns-then-from-area
@@ -13,10 +13,8 @@ returns-then-from-area c =
     rw (← length, ← lanes, ← n) (sym (settled c.from-3.result (c.from.result * c.from-2.result) (omega (arith, c.if-from-area.true))))
 
 pub returns : goal.returns
-unfolding level_of level_by
+unfolding level_of
 returns c =
     let length : c.from.result ≡ c.args.length = c.from.ensures in
     let lanes : c.from-2.result ≡ c.args.lanes = c.from-2.ensures in
-    let n : c.from-3.result ≡ c.args.n = c.from-3.ensures in
-    c.past_a.ensures (λ k. holds_at_most k c.args.n (c.args.length * c.args.lanes)) (λ limit r h p. rw (← length, ← lanes) p)
-    (unsettled _ _ (rw (← length, ← lanes, ← n) c.if-from-area.false))
+    rw (← length, ← lanes) c.level_past_a.ensures
