@@ -202,7 +202,7 @@ mod tests {
         }
     }
 
-    /// The papers' road of one segment with two lanes.
+    /// The worked study's road of one segment with two lanes.
     const ROAD: &str = "lay 01be012d07a80a023cb022000000";
     /// A sheet for it, 4,800 vehicles an hour on both lanes.
     const OPEN: &str = "take 01c025904e000002";
@@ -224,7 +224,7 @@ mod tests {
     }
 
     #[test]
-    fn the_papers_study_call_by_call() {
+    fn the_worked_study_call_by_call() {
         let calls = [ROAD, OPEN, "run 3", "totals", "report 1", "report 2"];
         let [laid, taken, run, totals, first, second] = answers(calls);
         assert_eq!([laid, taken, run, second], ["ok used 14", "ok used 8", "ok", "refused 6 0"]);

@@ -5,6 +5,7 @@ pub mod letters;
 pub mod lists;
 pub mod plans;
 mod program;
+pub mod tables;
 
 use crate::model::facility::Facility;
 use crate::model::sheets::Refusal;
@@ -79,10 +80,15 @@ impl Tally {
         println!(
             "  {above_zero} with part-feet above 0, {above_32_bits} with a segment's above 32 bits, at most {most}"
         );
-        let letters = self.letters.iter().map(|(&letter, count)| format!("{} {count}", char::from(letter)));
-        println!("  segments by letter: {}", letters.collect::<Vec<_>>().join(", "));
+        println!("  segments by letter: {}", by_letter(&self.letters));
         print_refused(&self.refused);
     }
+}
+
+/// How many had each letter, in a line.
+fn by_letter(letters: &BTreeMap<u8, u64>) -> String {
+    let letters = letters.iter().map(|(&letter, count)| format!("{} {count}", char::from(letter)));
+    letters.collect::<Vec<_>>().join(", ")
 }
 
 fn print_refused(refused: &BTreeMap<u64, u64>) {
@@ -170,9 +176,15 @@ fn timed_versions_give(study: &[u8], expected: &Outcome) -> Result<(), String> {
 fn engine_gives(study: &[u8], expected: &Outcome) -> Result<(), String> {
     let ours = expected.numbers();
     let theirs = engine::numbers(study)?;
-    let Some(at) = (0..ours.len()).find(|&at| ours[at] != theirs[at]) else { return Ok(()) };
+    let Some((at, ours, theirs)) = first_difference(&ours, &theirs) else { return Ok(()) };
     let listing = expected.listing();
-    Err(format!("out[{at}] should be {} and the engine gives {}; the model says:\n{listing}", ours[at], theirs[at]))
+    Err(format!("out[{at}] should be {ours} and the engine gives {theirs}; the model says:\n{listing}"))
+}
+
+/// The place of the first number in which two rows differ, with what stands there in both.
+fn first_difference(ours: &[u64], theirs: &[u64]) -> Option<(usize, u64, u64)> {
+    let mut pairs = ours.iter().zip(theirs).enumerate();
+    pairs.find(|(_, (ours, theirs))| ours != theirs).map(|(at, (&ours, &theirs))| (at, ours, theirs))
 }
 
 fn hex(bytes: &[u8]) -> String {

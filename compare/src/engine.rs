@@ -1,5 +1,7 @@
 //! The engine, through its static libraries.
 
+pub mod planning;
+
 use crate::model::convert::Way;
 use crate::model::sheets::Refusal;
 use crate::outcome::NUMBERS;
@@ -8,6 +10,14 @@ extern "C" {
     fn freeway_forecast(study: *const u8, study_len: usize, out: *mut u64, out_len: usize) -> u64;
     fn freeway_to_second(study: *const u8, len: usize, target: *mut u8, target_len: usize, count: *mut u64) -> u64;
     fn freeway_to_first(study: *const u8, len: usize, target: *mut u8, target_len: usize, count: *mut u64) -> u64;
+    fn freeway_plan(
+        sheet: *const u8,
+        sheet_len: usize,
+        carryover: *mut u32,
+        carryover_len: usize,
+        out: *mut u64,
+        out_len: usize,
+    ) -> u64;
     fn freeway_time_reports(road: *const u8, road_len: usize, period: *const u8, period_len: usize, times: u32) -> u64;
     fn freeway_time_steps(
         road: *const u8,
@@ -65,6 +75,14 @@ pub fn single_steps(road: &[u8], period: &[u8], periods: u32, reports: u8) -> Ti
 pub fn forecast(study: &[u8], out: &mut [u64]) -> u64 {
     // Sound: both slices are valid for their lengths, and the engine keeps neither.
     unsafe { freeway_forecast(study.as_ptr(), study.len(), out.as_mut_ptr(), out.len()) }
+}
+
+/// Works a planning sheet out: fills the first 325 places of `out`, puts the new carryover in the place of the old, and gives the
+/// refusal's number, 0 for none.
+pub fn plan(sheet: &[u8], carryover: &mut [u32], out: &mut [u64]) -> u64 {
+    let (carried, sections) = (carryover.as_mut_ptr(), carryover.len());
+    // Sound: all three slices are valid for their lengths, and the engine keeps none of them.
+    unsafe { freeway_plan(sheet.as_ptr(), sheet.len(), carried, sections, out.as_mut_ptr(), out.len()) }
 }
 
 /// What `out` holds before a call, so that a place left unwritten is seen.

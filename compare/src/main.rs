@@ -1,9 +1,10 @@
-//! Compares the forecast engine and its planning sheet with an independent model of documents 01 and 02 (Q-1 to Q-8), and times it
-//! against two versions in Rust.
+//! Compares the forecast engine and its planning sheet with an independent model of the rules, and times it against two versions in
+//! Rust.
 
 mod bench;
 mod calls;
 mod compare;
+mod course;
 mod engine;
 mod fixtures;
 mod idiomatic;
@@ -21,8 +22,10 @@ const COUNT: u64 = 300_000;
 
 const USAGE: &str = "arguments:
   [SEED [COUNT]]         compare random studies, then conversions of as many of either layout, then as many level letters, then as
-                         many answers to lists of calls, then as many planning sheets
+                         many letters of studies period by period, then as many answers to lists of calls, then as many planning
+                         sheets
   letters [SEED [COUNT]] compare level letters of random segments alone
+  tables [SEED [COUNT]]  compare letters of random studies period by period alone, in tables and pictures
   lists [SEED [COUNT]]   compare answers to random lists of calls alone
   sheets [SEED [COUNT]]  compare random planning sheets alone
   check [FOLDER..]       check studies and their listings (../studies, ../studies/first), traces, lists of calls, conversions;
@@ -37,6 +40,7 @@ fn main() -> ExitCode {
         ["bench"] => bench::run(),
         ["check", ref folders @ ..] => check(folders),
         ["letters", ref numbers @ ..] => by_numbers(numbers, compare::letters::run),
+        ["tables", ref numbers @ ..] => by_numbers(numbers, compare::tables::run),
         ["lists", ref numbers @ ..] => by_numbers(numbers, compare::lists::run),
         ["sheets", ref numbers @ ..] => by_numbers(numbers, compare::plans::run),
         ref numbers => by_numbers(numbers, compare),
@@ -59,14 +63,16 @@ fn by_numbers(words: &[&str], compare: fn(u64, u64) -> bool) -> bool {
 }
 
 /// Compares the forecasts of so many studies, then the conversions of as many of either layout, then as many level letters, then as
-/// many answers to calls, then as many planning sheets.
+/// many letters of studies period by period, then as many answers to calls, then as many planning sheets.
 fn compare(seed: u64, count: u64) -> bool {
     compare::letters::PROGRAM.is_made()
+        && compare::tables::PROGRAM.is_made()
         && compare::lists::PROGRAM.is_made()
         && compare::plans::PROGRAM.is_made()
         && compare::run(seed, count)
         && compare::conversions::run(seed, count)
         && compare::letters::run(seed, count)
+        && compare::tables::run(seed, count)
         && compare::lists::run(seed, count)
         && compare::plans::run(seed, count)
 }

@@ -1,6 +1,4 @@
-//! A model of documents 01 and 02 (Q-1, closed lanes; Q-2, conversion; Q-3, the split's remainder; Q-4, the off-ramp's total;
-//! Q-5, a sheet repeated by no bytes; Q-6, no section faster than free flow; Q-7, part-feet; Q-8 changes no answer), written from
-//! the documents alone and for reading, not for speed.
+//! A model of the rules that docs/manual.md tells, written apart from the engine and for reading, not for speed.
 
 pub mod convert;
 pub mod facility;
@@ -10,6 +8,7 @@ pub mod planning;
 pub mod sheets;
 pub mod step;
 
+use crate::course::Course;
 use crate::outcome::{Forecast, Outcome, Standing};
 use facility::Facility;
 use sheets::{Entry, Layout, Refusal};
@@ -29,13 +28,27 @@ pub fn outcome<E: Layout>(run: &Result<Facility<E>, Refusal>) -> Outcome {
 
 /// Lays the road, then takes and runs periods to the end of the file. A refusal's offset counts from the file's start.
 pub fn run<E: Layout>(study: &[u8]) -> Result<Facility<E>, Refusal> {
+    run_and_look(study, |_| ())
+}
+
+/// The same, with a look at the facility at each period's end.
+fn run_and_look<E: Layout>(study: &[u8], mut look: impl FnMut(&Facility<E>)) -> Result<Facility<E>, Refusal> {
     let (mut facility, mut start) = Facility::<E>::lay(study)?;
     while start < study.len() {
         let used = facility.take(&study[start..]).map_err(|refusal| refusal.in_file(start))?;
         facility.run(60)?;
+        look(&facility);
         start += used;
     }
     Ok(facility)
+}
+
+/// A whole study file period by period.
+pub fn course(study: &[u8]) -> Result<Course, Refusal> {
+    let mut rows = Vec::new();
+    let facility = run_and_look::<Entry>(study, |facility| rows.push(facility.marks()))?;
+    let lanes = facility.road().segments.iter().map(|segment| segment.lanes).collect();
+    Ok(Course { lanes, rows })
 }
 
 fn forecast_of<E: Layout>(facility: &Facility<E>) -> Forecast {
@@ -65,14 +78,14 @@ mod tests {
     ];
 
     #[test]
-    fn the_papers_study() {
+    fn the_worked_study() {
         let listing = "arrived 288000\nleft 241736\nstored 46264\npartsteps 1522988\norigin 42172\n\
                        1 4092 0 D 319091520\npartfeet 319091520\n";
         assert_eq!(forecast(&WORKED).listing(), listing);
     }
 
     #[test]
-    fn the_papers_study_as_numbers() {
+    fn the_worked_study_as_numbers() {
         let numbers = forecast(&WORKED).numbers();
         let told = [0, 0, 1, 288_000, 241_736, 46_264, 1_522_988, 319_091_520, 42_172, 4_092, 0, 68, 319_091_520];
         assert_eq!((numbers.len(), &numbers[..told.len()]), (265, &told[..]));
@@ -95,13 +108,30 @@ mod tests {
     }
 
     #[test]
-    fn the_papers_study_after_three_steps() {
+    fn the_worked_study_after_three_steps() {
         let (mut facility, used) = Facility::<Entry>::lay(&WORKED).unwrap();
         facility.take(&WORKED[used..]).unwrap();
         facility.run(3).unwrap();
         let totals = facility.totals();
         assert_eq!((facility.report(1).unwrap().n, facility.origin()), (4_092, 1_816));
         assert_eq!((totals.left, totals.part_steps), (8_492, 15_908));
+    }
+
+    /// The worked study's sheet, then with a lane closed, then with both open again.
+    #[test]
+    fn the_worked_study_period_by_period() {
+        let sheet = &WORKED[14..];
+        let closed = [&sheet[..7], &[1]].concat();
+        let told = |study: &[u8]| {
+            let course = course(study).unwrap();
+            course.cells().map(|cell| (char::from(cell.mark.letter), cell.mark.open)).collect::<Vec<_>>()
+        };
+        // 4,092 parts on both lanes, then 2,046 on one, which over both would be B
+        assert_eq!(told(&[&WORKED, &closed[..], sheet].concat()), [('D', 2), ('D', 1), ('D', 2)]);
+        assert_eq!(told(&[&WORKED[..14], &closed[..]].concat()), [('D', 1)]);
+        assert_eq!(told(&WORKED[..14]), []);
+        let refused = course(&[&WORKED[..], &[1]].concat());
+        assert_eq!(refused, Err(Refusal { number: 1, offset: 23 }));
     }
 
     /// One part leaves a step, but for the first, and 333 of 1,000 take the off-ramp.

@@ -1,6 +1,8 @@
 //! Planning sheets and what they give, by the model, and on lines as the program `planning_check` prints them:
 //! `name SHEET carry CARRYOVER -> answer`, then a line for each section. An f64 stands as the 16 hexadecimal digits of its bits.
 
+pub mod numbers;
+
 use crate::calls::{bytes, hex};
 use crate::model::planning::section::Answer;
 use crate::model::planning::{plan, Plan};
@@ -23,6 +25,16 @@ pub enum Carryover {
     Left,
 }
 
+impl Carryover {
+    /// Its numbers, where the sheet before left these.
+    pub fn on<'a>(&'a self, left: &'a [u32]) -> &'a [u32] {
+        match self {
+            Carryover::Given(numbers) => numbers,
+            Carryover::Left => left,
+        }
+    }
+}
+
 /// Plays sheets, one after the other.
 pub struct Planner {
     carryover: Vec<u32>,
@@ -41,9 +53,7 @@ impl Planner {
     /// What a record's sheet gives, and the lines that tell it.
     pub fn play(&mut self, record: &Record) -> (Result<Plan, Refusal>, String) {
         let Record { name, sheet, carryover } = record;
-        if let Carryover::Given(numbers) = carryover {
-            self.carryover.clone_from(numbers);
-        }
+        self.carryover = carryover.on(&self.carryover).to_vec();
         let start = format!("{name} {} carry {}", hex(sheet), list(&self.carryover));
         let planned = plan(sheet, &mut self.carryover);
         let told = match &planned {

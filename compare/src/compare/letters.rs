@@ -1,12 +1,13 @@
-//! The comparison of level letters: random segments, each letter told by the program `letters_check` and by the model.
+//! The comparison of level letters: random segments, each letter told by the program `levels_check` and by the model.
 
+use super::by_letter;
 use super::program::Program;
 use crate::model::step::letter_of;
 use crate::random::letters::Graded;
 use crate::random::Random;
 use std::collections::BTreeMap;
 
-pub const PROGRAM: Program = Program("letters_check");
+pub const PROGRAM: Program = Program("levels_check");
 
 /// So many letters at most are told by one process.
 const LETTERS_OF_A_PROCESS: u64 = 30_000;
@@ -37,8 +38,7 @@ impl Tally {
     }
 
     fn print(&self) {
-        let letters = self.letters.iter().map(|(&letter, count)| format!("{} {count}", char::from(letter)));
-        println!("letters: {}", letters.collect::<Vec<_>>().join(", "));
+        println!("letters: {}", by_letter(&self.letters));
         println!(
             "  {} at the largest n of their letter, {} one part above the largest of another",
             self.at_largest, self.above_largest

@@ -1,4 +1,4 @@
-//! The conversion of a whole study: from the first layout to the second with every lane open, and back.
+//! The conversion of a whole study: from the first layout to the second with every lane open, and back.
 
 use super::facility::MOST_PERIODS;
 use super::first;

@@ -2,6 +2,7 @@
 
 use super::sheets::{self, Entry, Layout, Period, Refusal, Road};
 use super::step::{self, Flows, State};
+use crate::course::Mark;
 
 const STEPS_OF_A_PERIOD: u64 = 60;
 pub const MOST_PERIODS: u64 = 96;
@@ -77,8 +78,7 @@ impl<E: Layout> Facility<E> {
         Ok((facility, used))
     }
 
-    /// Takes the period at the front of `bytes`, or where there is no byte the sheet in force once more; gives how many bytes
-    /// it took.
+    /// Takes the period at the front of `bytes`, or where there is no byte the sheet in force once more; gives how many bytes it took.
     pub fn take(&mut self, bytes: &[u8]) -> Result<usize, Refusal> {
         if matches!(self.in_force, Some((_, made)) if made < STEPS_OF_A_PERIOD) {
             return Err(Refusal::plain(12));
@@ -155,6 +155,12 @@ impl<E: Layout> Facility<E> {
             total_y: self.total_y[i],
             part_feet: self.part_feet[i],
         })
+    }
+
+    /// Each segment's letter, and its open lanes.
+    pub fn marks(&self) -> Vec<Mark> {
+        let segments = self.road_in_force.segments.iter().zip(&self.state.n);
+        segments.map(|(segment, &n)| Mark { letter: step::letter(segment, n), open: segment.lanes }).collect()
     }
 
     /// The remainders of all segments, which are in no answer.
@@ -277,7 +283,7 @@ mod tests {
         (1..=facility.segments()).map(|i| facility.report(i).unwrap()).collect()
     }
 
-    /// of all that left a segment so far, the off-ramp has exactly its share, rounded down, and the remainder is the rest.
+    /// Of all that left a segment so far, the off-ramp has exactly its share, rounded down, and the remainder is the rest.
     fn totals_are_exact(facility: &Facility) {
         let segments = facility.road.segments.iter().zip(facility.remainders());
         for (report, (segment, &remainder)) in reports(facility).iter().zip(segments) {
@@ -315,7 +321,7 @@ mod tests {
         left.collect()
     }
 
-    /// runs a study, its part-feet worked out apart from all that is told, those of each segment and those of all in one sum.
+    /// Runs a study, its part-feet worked out apart from all that is told, those of each segment and those of all in one sum.
     fn run_with_part_feet(study: &[u8]) -> Option<Facility> {
         let (mut by_segment, mut of_all) = (vec![0; 64], 0);
         run_and_repeated(study, |before, after| {

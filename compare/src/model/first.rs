@@ -1,5 +1,5 @@
-//! The first layout and the first rules: document 01 without closed lanes, its split with the remainder (Q-3) like all others. A
-//! period sheet has two numbers a segment, and under every sheet lanes and capacity are the road's own.
+//! The first layout and the first rules, which know no closed lanes: a period sheet has two numbers a segment, and under every sheet
+//! lanes and capacity are the road's own.
 
 use super::sheets::{Fields, Layout, Refusal, Segment};
 
@@ -38,7 +38,7 @@ mod tests {
     use super::*;
 
     #[test]
-    fn the_papers_study() {
+    fn the_worked_study() {
         let road = [0x01, 0xBE, 0x01, 0x2D, 0x07, 0xA8, 0x0A, 0x02, 0x3C, 0xB0, 0x22, 0x00, 0x00, 0x00];
         let period = [0x01, 0xC0, 0x25, 0x90, 0x4E, 0x00, 0x00];
         let listing = "arrived 288000\nleft 241736\nstored 46264\npartsteps 1522988\norigin 42172\n\

@@ -32,7 +32,7 @@ mod tests {
     use super::*;
 
     #[test]
-    fn the_papers_numbers() {
+    fn worked_numbers() {
         assert_eq!(read(&[0xBE, 0x01]), Ok((190, 2)));
         assert_eq!(read(&[0xBE, 0x81, 0x00]), Err(3));
         assert_eq!(read(&[0xFF, 0xFF, 0xFF, 0xFF, 0x0F]), Ok((4_294_967_295, 5)));

@@ -1,5 +1,4 @@
-//! The planning sheet (document 01; its rates are those of 000, section 6), with the floor of Q-6: no section is faster than its
-//! free flow.
+//! The planning sheet. No section is faster than its free flow.
 
 pub mod section;
 

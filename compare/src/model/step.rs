@@ -1,4 +1,4 @@
-//! One step, rule by rule. Segment i of the documents is index i - 1 here; node i is the entrance of segment i.
+//! One step, rule by rule. Segment i of the rules is index i - 1 here; node i is the entrance of segment i.
 //!
 //! The rules are those of a road in force: N is the number of open lanes there, and C the capacity that these have.
 
@@ -217,14 +217,14 @@ mod tests {
     }
 
     #[test]
-    fn the_papers_merges() {
+    fn worked_merges() {
         assert_eq!(merge(4000, 3900, 500, 2), (500, 3500));
         assert_eq!(merge(4000, 3900, 1500, 2), (1000, 3000));
         assert_eq!(merge(4000, 1000, 4000, 2), (3000, 1000));
     }
 
     #[test]
-    fn the_papers_splits() {
+    fn worked_splits() {
         let segment = with_off_ramp(250, 1);
         let split = Split::of(&segment, 0);
         assert_eq!(could_leave(&segment, split, 7), 7);

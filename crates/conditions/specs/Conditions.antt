@@ -1,6 +1,5 @@
--- Document 01, "One step", and document 02, Q-1, closed lanes: what is in force while a step is made (NS, the mainline demand, the exit
--- capacity X, and at each segment the numbers that the rules go by there). Here alone a road and a period sheet become conditions; those of the
--- first rules (Q-2) stand in `first_rules`.
+-- Manual 4.1, what is in force while a step is made: NS, the mainline demand, the exit capacity X, and at each segment the numbers that the
+-- rules go by there. Here alone a road and a period sheet become conditions; those of the first rules (manual 10.2) stand in `first_rules`.
 use Rattle.std.specs.Prelude.{ℕ, ◌-◌, ◌*◌, ◌/◌, min, List, get_or}
 use Rattle.parts.specs.declared.RoadGlobals.{RoadGlobals}
 use Rattle.parts.specs.declared.Segment.{Segment}
@@ -9,11 +8,11 @@ use Rattle.parts.specs.Parts.{road_globals, segment_of, period_globals, entry_of
 use Rattle.conditions.specs.declared.InForce.{InForce}
 use Rattle.conditions.specs.Values.{values_to}
 
--- the capacity with some of the N lanes open: C × open / N
+-- the capacity with w of the N lanes open: C × w / N
 unfoldable pub open_capacity : (capacity lanes opened : ℕ) → ℕ
 open_capacity c n k = c * k / n
 
--- J = KJ × open × L / 22, the jam, from the jam density; Q = KC × open × L / 22, from the density at capacity
+-- J = KJ × w × L / 22, the jam, from the jam density; Q = KC × w × L / 22, from the density at capacity; w are the open lanes
 unfoldable pub parts_at : (density lanes length : ℕ) → ℕ
 parts_at k n l = k * n * l / 22
 

@@ -1,4 +1,4 @@
--- What the step's arithmetic asks of conditions: no rule of document 01.
+-- What the step's arithmetic asks of conditions: no rule of the manual.
 use Rattle.std.specs.Prelude.{ℕ, ◌≤◌, ◌<◌}
 use Rattle.parts.specs.declared.RoadGlobals.{RoadGlobals}
 use Rattle.conditions.specs.declared.InForce.{InForce}

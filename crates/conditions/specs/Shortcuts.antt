@@ -1,4 +1,4 @@
--- What spares a step some work, three numbers of what is in force at a segment: no rule of document 01.
+-- What spares a step some work, three numbers of what is in force at a segment: no rule of the manual.
 use Rattle.std.specs.Prelude.{ℕ, ◌+◌, ◌-◌, ◌*◌, ◌/◌, min, leb, ltb, if◌then◌else◌}
 use Rattle.conditions.specs.declared.InForce.{InForce}
 use Rattle.conditions.specs.declared.Shortcuts.{Shortcuts}

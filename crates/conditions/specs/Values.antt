@@ -1,4 +1,4 @@
--- Lists of a function's values at the indexes below a number: no rule of document 01.
+-- Lists of a function's values at the indexes below a number: no rule of the manual.
 use Rattle.std.specs.Prelude.{ℕ, zero, suc, List, [], ◌∷◌}
 
 -- the values at 0, 1 and so on, so many of them

@@ -1,4 +1,4 @@
--- The code's conditions as those of the rules: no rule of document 01.
+-- The code's conditions as those of the rules: no rule of the manual.
 use Rattle.std.specs.Prelude.{map, take}
 use Rattle.conditions.specs.Conditions.{Conditions}
 use Rattle.conditions.specs.declared.place.Conditions as code

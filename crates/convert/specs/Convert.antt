@@ -1,5 +1,5 @@
--- Document 02, Q-2, the converter: a whole study in the other layout, its refusals with their offsets from the study's start, and the call on a
--- lent target. "Nothing is written to the target unless the whole study converts."
+-- Manual 10.1, the converter: a whole study in the other layout, its refusals with their offsets from the study's start, and the call on a
+-- lent target, to which nothing is written unless the whole study converts.
 use Rattle.std.specs.Prelude.{ℕ, zero, suc, ◌+◌, List, [], ◌∷◌, ◌++◌, length, take, drop, ltb, if◌then◌else◌, Result, Ok, Err}
 use Rattle.refusals.specs.Numbers.{refusal_number}
 use Rattle.refusals.specs.declared.Refused.{Refused}
@@ -25,7 +25,7 @@ unfoldable pub and_sheets : (at : ℕ) → Rows → (ℕ → Sheets) → Sheets
 and_sheets at (ReadRow row used) rest = onto_sheets row (rest (at + used))
 and_sheets at (RefusedAt number offset) rest = RefusedSheet number (at + offset)
 
--- the sheets from a place of the study on to its end, so many at most, each as `read` has it; "a 97th sheet is 13, with the offset of its first byte"
+-- the sheets from a place of the study on to its end, so many at most, each as `read` has it; a 97th sheet is 13, with the offset of its first byte
 unfoldable pub sheets_from : (read : List ℕ → Rows) → (left : ℕ) → (bytes : List ℕ) → (at : ℕ) → Sheets
 sheets_from read zero bytes at = if ltb at (length bytes) then RefusedSheet 13 at else AllSheets []
 sheets_from read (suc left) bytes at =
@@ -41,7 +41,7 @@ unfoldable pub behind : (part : List ℕ) → Sheets → Conversion
 behind part (AllSheets rows) = Converted (part ++ rows_bytes rows)
 behind part (RefusedSheet number offset) = Unconverted number offset
 
--- "the road part is copied byte for byte"; at most 96 sheets
+-- the road part is copied byte for byte; at most 96 sheets
 abbrev pub converted_on : Way → (bytes : List ℕ) → Rows → Conversion
 converted_on way bytes (ReadRow row used) = behind (take used bytes) (sheets_from (converted_sheet way (padded row)) 96 bytes used)
 converted_on way bytes (RefusedAt number offset) = Unconverted number offset
@@ -70,7 +70,7 @@ pub record Reply : Type 0 where
   pub answer : Told
   pub target : List ℕ
 
--- "7 comes after all sheets are read": the whole study from the target's start on, or the target as it was
+-- 7 comes after all sheets are read: the whole study from the target's start on, or the target as it was
 abbrev pub replied_by : Conversion → (target : List ℕ) → Reply
 replied_by (Converted bytes) target = record { answer = told_by (write_answer target 0 bytes); target = write_into target 0 bytes }
 replied_by (Unconverted number offset) target = record { answer = RefusedAs number offset; target = target }

@@ -1,4 +1,4 @@
--- Document 02, Q-2: a period sheet in the other layout, "from the first layout to the second with every lane open, and back".
+-- Manual 10.1: a period sheet in the other layout, from the first to the second with every lane open, and back.
 use Rattle.std.specs.Prelude.{ℕ, zero, suc, ◌+◌, ◌-◌, ◌*◌, ◌/◌, ◌%◌, List, length, take, get_or, ltb, if◌then◌else◌}
 use Rattle.numbers.specs.Row.{Rows, ReadRow, RefusedAt}
 use Rattle.sheets.specs.declared.Layout.{Layout}

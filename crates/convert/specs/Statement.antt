@@ -1,4 +1,4 @@
--- Document 02, Q-2: what is claimed of conversions. A study converts back exactly if it is read whole and no lane is closed in it; 16 tells where the
+-- Manual 10.1: what is claimed of conversions. A study converts back exactly if it is read whole and no lane is closed in it; 16 tells where the
 -- first closed lane's number stands; there and back, and back and there, give the same bytes, and the road part is the same bytes.
 use Rattle.std.specs.Prelude.{ℕ, ◌+◌, ◌*◌, ◌<◌, ◌≡◌, List, [], ◌∷◌, take, get_or}
 use Rattle.numbers.specs.Number.{Bytes}

@@ -1,4 +1,4 @@
--- What the inner functions of a conversion promise: no rule of document 02.
+-- What the inner functions of a conversion promise: no rule of the manual.
 use Rattle.std.specs.Prelude.{◌≡◌, ℕ, ◌+◌, ◌≤◌, List, ◌++◌, length, drop}
 use Rattle.numbers.specs.Row.{Rows, ReadRow, RefusedAt}
 use Rattle.convert.specs.Convert.{Conversion, Converted, Unconverted, Told, Written, RefusedAs}

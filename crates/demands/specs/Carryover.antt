@@ -1,4 +1,4 @@
--- Document 01, "Planning sheet": the new carryover of every section, max(d - c, 0), which replaces the old.
+-- Manual 11.2: the new carryover of every section, max(d - c, 0), which replaces the old.
 use Rattle.std.specs.Prelude.{ℕ, List, length, get_or}
 use Rattle.sections.specs.Section.{SectionNumbers, carried_of}
 use Rattle.planning_sheet.specs.Listing.{first}

@@ -1,4 +1,4 @@
--- Document 01, "Planning sheet": "Demand d(i) = d(i - 1) + inflow - outflow + carryover(i), d(0) = 0" (document 000, 25-43).
+-- Manual 11.2: d(i) = d(i - 1) + inflow - outflow + carryover(i), and d(0) = 0 (HCM 25-43).
 use Rattle.std.specs.Prelude.{ℕ, zero, suc, Bool, true, false, ◌&&◌, List, length, Option, Some, None, leb, ℤ, pos, negsuc, ◌+ℤ◌, ◌-ℤ◌, nat_abs, get_or, if◌then◌else◌}
 use Rattle.sections.specs.Section.{SectionNumbers}
 use Rattle.planning_sheet.specs.Listing.{first_padded}

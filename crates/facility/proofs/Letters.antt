@@ -4,7 +4,7 @@ use mathlib.Core.Path.{◌≡◌}
 use mathlib.Core.List.{List}
 use native.Mathlib.Omega.{arith}
 use Rattle.parts.specs.Parts.{segment_of, entry_of}
-use Rattle.letters.specs.Level.{level_of}
+use Rattle.levels.specs.Level.{level_of}
 use Rattle.steps.specs.Step.{cell_in}
 use Rattle.conditions.specs.Conditions.{in_force, segments, entry_under}
 use Rattle.conditions.proofs.Good.{in_force_at_lem}

@@ -1,5 +1,4 @@
--- Document 01, "Calls on a facility", and document 02, Q-4, the report's totals, Q-5, the sheet in force once more, and Q-7, part-feet: what each call
--- gives, as a whole, refused or not; beside a refusal the facility as it came.
+-- Manual 6, the calls: what each gives, as a whole, refused or not; beside a refusal the facility as it came.
 use Rattle.std.specs.Prelude.{ℕ, ◌+◌, ◌-◌, List, replicate, if◌then◌else◌}
 use Rattle.numbers.specs.Writing.{Writing, Refused, write_answer, write_into}
 use Rattle.numbers.specs.Row.{Rows, ReadRow, RefusedAt}
@@ -8,13 +7,13 @@ use Rattle.sheets.specs.Write.{row_bytes, road_row, period_row}
 use Rattle.segment.specs.declared.Cell.{Cell}
 use Rattle.segment.specs.declared.tally.Tally.{Tally}
 use Rattle.segment.specs.Tally.{no_tally}
-use Rattle.letters.specs.declared.Level.{Level}
-use Rattle.letters.specs.declared.Level.TheVariants.{A}
+use Rattle.levels.specs.declared.Level.{Level}
+use Rattle.levels.specs.declared.Level.TheVariants.{A}
 use Rattle.conditions.specs.Conditions.{in_force_at, segments}
 use Rattle.steps.specs.Step.{cell_in, fresh_state, stored_of}
 use Rattle.steps.specs.Tallies.{fresh_tallies, tally_in}
 use Rattle.steps.specs.Driven.{no_partfeet, partfeet_in, partfeet_of}
-use Rattle.letters.specs.Level.{level_of}
+use Rattle.levels.specs.Level.{level_of}
 use Rattle.door.specs.declared.Facility.{Facility}
 use Rattle.facility.specs.Verdicts.{Verdict, GoesOn, RefusedBy, Taking, NewSheet, SameSheet, NotTaken, take_verdict, run_verdict, report_verdict, period_verdict}
 use Rattle.door.specs.Sound.{sound}
@@ -72,7 +71,7 @@ fresh_on road = record {
 abbrev pub empty : Facility
 empty = fresh_on no_sheet
 
--- 9: "the facility is the empty one", asked by every call on a facility before all else; `refuse` is the call's refusal by a number
+-- 9, the facility is the empty one, asked by every call on a facility before all else; `refuse` is the call's refusal by a number
 abbrev pub unless_empty : {A : Type 0} → Facility → (refuse : ℕ → A) → A → A
 unless_empty f refuse result = if sound f then result else refuse 9
 
@@ -84,7 +83,7 @@ refused f number offset = record { refusal = number; offset = offset; used = 0; 
 abbrev pub done : ℕ → Facility → Reply
 done used f = record { refusal = 0; offset = 0; used = used; facility = f }
 
--- Lay a road: field by field 1, 2, 3 and 4
+-- Lay a road (6.2): field by field 1, 2, 3 and 4
 abbrev pub laid_by : Rows → Reply
 laid_by (ReadRow row used) = done used (fresh_on (padded row))
 laid_by (RefusedAt number offset) = refused empty number offset
@@ -102,16 +101,16 @@ taken_by f (NewSheet row used) = done used (with_sheet f (padded row))
 taken_by f SameSheet = done 0 (with_sheet f f.period)
 taken_by f (NotTaken number offset) = refused f number offset
 
--- Take a period sheet: 9, then its verdict
+-- Take a period sheet (6.3): 9, then its verdict
 unfoldable pub take_of : Facility → List ℕ → Reply
 take_of f bytes = unless_empty f (λ e. refused f e 0) (taken_by f (take_verdict (read_period f.road) f.taken f.made bytes))
 
--- by the verdict: the facility after k steps; "a refused run makes no step"
+-- by the verdict: the facility after k steps; a refused run makes no step
 abbrev pub ran_by : Facility → ℕ → Verdict → Reply
 ran_by f k GoesOn = done 0 (steps_of k f)
 ran_by f k (RefusedBy number) = refused f number 0
 
--- Run k steps: 9, then its verdict
+-- Run k steps (6.4): 9, then its verdict
 unfoldable pub run_of : Facility → ℕ → Reply
 run_of f k = unless_empty f (λ e. refused f e 0) (ran_by f k (run_verdict f.taken f.made k))
 
@@ -133,7 +132,7 @@ abbrev pub reported_by : Facility → (segment : ℕ) → Verdict → ReportRepl
 reported_by f i GoesOn = reported (cell_in f.state (i - 1)) (level_at f (i - 1)) (tally_in f.tallies (i - 1)) (partfeet_in f.partfeet (i - 1))
 reported_by f i (RefusedBy number) = no_report number
 
--- Segment report, segments counted from 1: 9, then its verdict
+-- Segment report (6.5), segments counted from 1: 9, then its verdict
 unfoldable pub report_of : Facility → ℕ → ReportReply
 report_of f i = unless_empty f no_report (reported_by f i (report_verdict f.road i))
 
@@ -141,7 +140,7 @@ report_of f i = unless_empty f no_report (reported_by f i (report_verdict f.road
 abbrev pub no_sums : ℕ → SumsReply
 no_sums number = record { refusal = number; arrived = 0; left = 0; stored = 0; partsteps = 0; partfeet = 0 }
 
--- Totals: 9
+-- Totals (6.6): 9
 unfoldable pub totals_of : Facility → SumsReply
 totals_of f =
     unless_empty f no_sums (record {
@@ -166,7 +165,7 @@ not_written buffer number = record { answer = Refused number; buffer = buffer }
 abbrev pub wrote_bytes : (bytes buffer : List ℕ) (at : ℕ) → WriteReply
 wrote_bytes bytes buffer at = record { answer = write_answer buffer at bytes; buffer = write_into buffer at bytes }
 
--- Write the road: 9, 7
+-- Write the road (6.7): 9, 7
 unfoldable pub write_road_of : Facility → List ℕ → ℕ → WriteReply
 write_road_of f buffer at = unless_empty f (not_written buffer) (wrote_bytes (row_bytes (road_row f.road)) buffer at)
 
@@ -175,6 +174,6 @@ abbrev pub wrote_by : Verdict → (bytes buffer : List ℕ) (at : ℕ) → Write
 wrote_by GoesOn bytes buffer at = wrote_bytes bytes buffer at
 wrote_by (RefusedBy number) bytes buffer at = not_written buffer number
 
--- Write the period in force: 9, then its verdict, then 7
+-- Write the period in force (6.7): 9, then its verdict, then 7
 unfoldable pub write_period_of : Facility → List ℕ → ℕ → WriteReply
 write_period_of f buffer at = unless_empty f (not_written buffer) (wrote_by (period_verdict f.taken) (row_bytes (period_row f.period)) buffer at)

@@ -1,5 +1,4 @@
--- Document 01, "The list statement", and document 02, Q-4, the segments' totals, Q-5, the sheet in force once more, and Q-7, part-feet: the ledger,
--- worked out from the road and the calls' arguments alone. It names no facility.
+-- Manual 8.1, the ledger, worked out from the road and the calls' arguments alone. It names no facility.
 use Rattle.std.specs.Prelude.{ℕ, zero, suc, ◌+◌, ◌-◌, List, [], ◌∷◌, take}
 use Rattle.numbers.specs.Row.{Rows}
 use Rattle.sheets.specs.Read.{read_period, padded}
@@ -7,12 +6,12 @@ use Rattle.facility.specs.Verdicts.{Verdict, GoesOn, RefusedBy, Taking, NewSheet
 use Rattle.segment.specs.declared.Cell.{Cell}
 use Rattle.segment.specs.declared.tally.Tally.{Tally}
 use Rattle.steps.specs.declared.State.{State}
-use Rattle.letters.specs.declared.Level.{Level}
+use Rattle.levels.specs.declared.Level.{Level}
 use Rattle.conditions.specs.declared.InForce.{InForce}
 use Rattle.conditions.specs.Conditions.{Conditions, in_force_at, SheetInForce, None, Under, conditions_of, segments}
 use Rattle.steps.specs.Step.{cell_in, stepped, fresh_state, arrived_of, left_of, stored_of}
 use Rattle.steps.specs.Driven.{driven_at, driven_of}
-use Rattle.letters.specs.Level.{level_of}
+use Rattle.levels.specs.Level.{level_of}
 
 -- the calls of a list, with their arguments
 pub data Call : Type 0 where
@@ -178,7 +177,7 @@ answer_by rules b (Report i) = reported_as rules b i (report_verdict b.road i)
 answer_by rules b Totals =
     Summed (arrived_in b.trail) (left_in b.trail) (stored_of (segments b.road) (state_after b.trail)) (partsteps_in b.trail) (driven_in b.trail)
 
--- the book after a call: "a call that the tables refuse changes nothing, nor do a segment report and totals"
+-- the book after a call: one that the tables refuse changes nothing, nor do a segment report and totals
 abbrev pub after_by : Rules → Book → Call → Book
 after_by rules b (Take bytes) = with_taking b (take_by rules b bytes)
 after_by rules b (Run k) = with_run rules b k (run_verdict b.taken b.made k)

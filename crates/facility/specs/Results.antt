@@ -1,4 +1,4 @@
--- What the code's results say, as the replies and the verdicts of the definitions: a refusal by its number.
+-- Manual 6, what the code's results say, as the replies and the verdicts of the definitions: a refusal by its number.
 use Rattle.std.specs.Prelude.{ℕ, Result, Ok, Err}
 use Rattle.refusals.specs.declared.Refusal.{Refusal}
 use Rattle.refusals.specs.declared.Refused.{Refused}

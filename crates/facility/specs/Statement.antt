@@ -1,5 +1,4 @@
--- Document 01, "The list statement", and document 02, Q-4, the off-ramp's total to the part, and Q-7, part-feet: the one claim about a whole list of
--- calls on a road just laid. `proofs/Lists` shows it of every list.
+-- Manual 8, what always holds: the one claim about a whole list of calls on a road just laid. `proofs/Lists` shows it of every list.
 use Rattle.std.specs.Prelude.{ℕ, ◌+◌, ◌<◌, true, ◌≡◌, [], ◌∷◌, List, map}
 use Rattle.parts.specs.Parts.{segment_of}
 use Rattle.conditions.specs.Conditions.{segments}

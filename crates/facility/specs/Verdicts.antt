@@ -1,6 +1,6 @@
--- Document 01, "Refusals that come from the input" and "from the state", and document 02, Q-5, zero bytes as a period sheet: the checks of each
--- call that has any beside 9, 7 and the reading of a road, in their order, from the road, the sheets taken so far, the steps made under the last,
--- and the argument. Each table stands here alone; the calls and the ledger both use it. 9, that the facility is the empty one, is asked before these.
+-- Manual 6 and 7, zero bytes as a period sheet among them (6.3): the checks of each call that has any beside 9, 7 and the reading of a road, in
+-- their order, from the road, the sheets taken so far, the steps made under the last, and the argument. Each table stands here alone; the calls
+-- and the ledger both use it. 9, that the facility is the empty one, is asked before these.
 use Rattle.std.specs.Prelude.{ℕ, ◌-◌, Bool, ◌&&◌, ◌||◌, List, length, leb, ltb, eqb, if◌then◌else◌}
 use Rattle.numbers.specs.Row.{Rows, ReadRow, RefusedAt}
 use Rattle.conditions.specs.Conditions.{segments}
@@ -14,7 +14,7 @@ pub data Verdict : Type 0 where
 abbrev pub outside : (low high k : ℕ) → Bool
 outside low high k = ltb k low || ltb high k
 
--- 12: "the period in force isn't run out"
+-- 12: the period in force isn't run out
 unfoldable pub unfinished : (taken made : ℕ) → Bool
 unfinished taken made = ltb 0 taken && ltb made 60
 
@@ -29,7 +29,7 @@ abbrev pub as_read : Rows → Taking
 as_read (ReadRow row used) = NewSheet row used
 as_read (RefusedAt number offset) = NotTaken number offset
 
--- of zero bytes: 10, no period taken yet; else "the sheet in force once more, open lanes included"
+-- of zero bytes: 10, no period taken yet; else the sheet in force once more, open lanes included
 unfoldable pub repeat_verdict : (taken : ℕ) → Taking
 repeat_verdict taken = if eqb taken 0 then NotTaken 10 0 else SameSheet
 

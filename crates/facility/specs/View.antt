@@ -1,4 +1,4 @@
--- Document 01, "The list statement": the facility that shows a book of the ledger, in every field.
+-- Manual 8.2, state: the facility that shows a book of the ledger, in every field.
 use Rattle.std.specs.Prelude.{List, ℕ}
 use Rattle.conditions.specs.Conditions.{SheetInForce, None, Under, segments}
 use Rattle.segment.specs.declared.tally.Tally.{Tally}

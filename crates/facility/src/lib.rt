@@ -15,7 +15,7 @@ ghost use Rattle.facility.specs.Results.{replied, ran, report_told, sums_told, v
 ghost use Rattle.facility.specs.Verdicts.{GoesOn, RefusedBy, unfinished, repeat_verdict, run_verdict, report_verdict, period_verdict};
 
 use door::Facility;
-use letters::Level;
+use levels::Level;
 use refusals::{Refusal, Refused};
 use segment::Tally;
 use sheets::Layout;
@@ -194,7 +194,7 @@ fn can_report(f: &Facility, segment: u32) -> Result<(), Refusal>
 
 // The lanes that the letter of segment i, counted from 0, reckons with: those in force.
 #[tactic(auto, using(crate::proofs::Letters::lanes_before, crate::proofs::Letters::lanes_under))]
-fn lanes_at(f: &Facility, i: usize) -> u32
+pub fn lanes_at(f: &Facility, i: usize) -> u32
     requires { i < 64 }
     ensures { result ≡ (entry_under f.now.road (sheet_by f.now.taken f.now.period) i).opened }
 {
@@ -221,7 +221,7 @@ fn report_at(f: &Facility, i: usize) -> SegmentReport
         ramp: cell.ramp,
         off: cell.off,
         out: cell.out,
-        level: letters::level_of(cell.n, length, lanes),
+        level: levels::level_of(cell.n, length, lanes),
         tally: f.tallies[i],
         partfeet: f.partfeet[i],
     }

@@ -1,5 +1,5 @@
 -- The first rules compute: what is in force under a sheet of the first layout, and steps of studies whose states were worked out apart from these
--- definitions, by document 01 and the remainder of document 02, Q-3.
+-- definitions.
 use mathlib.Core.Path.{◌≡◌, refl}
 use Prim.Native.Nat.{ℕ, zero, suc}
 use mathlib.Core.List.{List, [], ◌∷◌}
@@ -82,7 +82,7 @@ traces =
     (5 ∷ 20000 ∷ 20000 ∷ 600 ∷ 10000 ∷ 9912 ∷ 0 ∷ 600 ∷ 0 ∷ 0 ∷ 900 ∷ 3210 ∷ 8933 ∷ [])
     4
     (record { cells = cell 24544 2400 7 0 0 0 0 ∷ cell 0 39648 0 0 0 0 0 ∷ cell 0 2400 0 0 0 0 0 ∷ cell 0 0 0 0 0 0 0 ∷ cell 1 12836 0 1 0 1 750 ∷ []; origin = 55456; exit = 1 })
-    -- remainders in light traffic (document 02, Q-3)
+    -- remainders in light traffic
     ∷ From
     (5 ∷ 190 ∷ 45 ∷ 7
     ∷ 2640 ∷ 3 ∷ 60 ∷ 6600 ∷ 0 ∷ 333 ∷ 10000

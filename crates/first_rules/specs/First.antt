@@ -1,5 +1,5 @@
--- Document 02, Q-2, "the first rules": the same step rules, Q-3's split among them, under the conditions of a sheet without open lanes. Lanes N and
--- capacity C come from the road alone, ramp demands and meter rates from a sheet of the first layout.
+-- Manual 10.2, the first rules: the same step rules, the split with its remainder among them, under the conditions of a sheet without open
+-- lanes. Lanes N and capacity C come from the road alone, ramp demands and meter rates from a sheet of the first layout.
 use Rattle.std.specs.Prelude.{ℕ, ◌+◌, ◌*◌, List, get_or}
 use Rattle.sheets.specs.Read.{read_first_period}
 use Rattle.parts.specs.Parts.{road_globals, segment_of}

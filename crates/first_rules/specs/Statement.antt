@@ -1,5 +1,5 @@
--- Document 02, Q-2: "Forecasts from a converted study must equal those of the first rules for every step." The claims on a study and a lent target, by
--- what the call `convert` answers, each way.
+-- Manual 10.2: a converted study forecasts as it does by the first rules, step by step. The claims on a study and a lent target, by what the
+-- call `convert` answers, each way.
 use Rattle.std.specs.Prelude.{ℕ, ◌≡◌, List, take}
 use Rattle.facility.specs.Ledger.{Book, present}
 use Rattle.study.specs.Forecast.{Ended, RefusedStudy, outcome_by, forecast_by, forecast_of}

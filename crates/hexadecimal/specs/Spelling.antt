@@ -1,4 +1,4 @@
--- Text for people (no rule of document 01): bytes in hexadecimal, two digits each.
+-- Text for people (no rule of the manual): bytes in hexadecimal, two digits each.
 use Rattle.std.specs.Prelude.{ℕ, ◌+◌, ◌-◌, ◌*◌, ◌/◌, ◌&&◌, ◌≡◌, List, [], ◌∷◌, length, take, leb, ltb, if◌then◌else◌, Option, Some, None, Result, Ok, Err}
 use Rattle.text.specs.Text.{is_digit}
 use Rattle.hexadecimal.specs.declared.SpellingError.{SpellingError}

@@ -1,4 +1,4 @@
--- A line of a file (no rule of document 01).
+-- A line of a file (no rule of the manual).
 use Rattle.std.specs.Prelude.{ℕ, length}
 use Rattle.input.specs.declared.Line.{Line}
 use Rattle.input.specs.declared.Line.TheVariants.{Whole, Long}

@@ -93,6 +93,20 @@ pub fn read_to_end<'a, R: Read>(file: &mut R, buffer: &'a mut [u8]) -> Result<&'
     Ok(&buffer[..length])
 }
 
+// Reads a study and prints what it comes to. Answers what went wrong, if something did. The buffer serves every study: the refusal of a longer one is
+// decided within its first 32,300 bytes.
+pub fn answer_study<R: Read, W: Write, P: FnOnce(&mut W, &[u8]) -> io::Result<()>>(
+    source: &mut R,
+    output: &mut W,
+    print: P,
+) -> Result<(), &'static str>
+    requires { P.IsAlwaysCallable print }
+{
+    let mut buffer = [0; STUDY_ROOM];
+    let study = read_to_end(source, &mut buffer).map_err(|_| "cannot read the study")?;
+    print(output, study).map_err(|_| "cannot write the answer")
+}
+
 // A line without its end, or the start of one that is longer than its buffer.
 #[derive(Clone, Copy)]
 pub enum Line<'a> {

@@ -9,14 +9,14 @@ use Rattle.sheets.specs.Layout.{road_range, period_range, range_of, count_of}
 use Rattle.parts.specs.Parts.{road_globals, segment_of, period_globals, entry_of}
 use Rattle.numbers.specs.Row.{onto, and_then, fields}
 use Rattle.sheets.specs.Read.{read_row, road_from, read_road, read_period, sheet_reading}
-use Rattle.letters.specs.declared.Level.TheVariants.{A, D, F}
+use Rattle.levels.specs.declared.Level.TheVariants.{A, D, F}
 use Rattle.conditions.specs.Values.{values_to}
 use Rattle.conditions.specs.Conditions.{open_capacity, parts_at, lowered_by, in_force, demand_under, outlet_under, entry_under, conditions_of}
 use Rattle.rules.specs.Rules.{largest, rounded_up, wish_to_leave, off, remainder_after, through, most_leaving, ramp_wish, entrance, supply, ramp_flow, main_flow, leaving}
 use Rattle.segment.specs.Place.{split_of, wish_of, most_of, onward_of, queued_of, ramp_wish_of, entrance_of, supply_of, inflow_of, leaving_of, moved_of}
 use Rattle.steps.specs.Step.{main_wish_at, queued_at, main_flow_at, replaced, stepped, sum_to, arrived_of, left_of, stored_of}
 use Rattle.steps.specs.Driven.{driven_at, driven_of}
-use Rattle.letters.specs.Level.{graded, holds_at_most, level_by, level_of}
+use Rattle.levels.specs.Level.{graded, holds_at_most, level_by, level_of}
 use Rattle.door.specs.declared.Facility.{Facility}
 use Rattle.facility.specs.Ledger.{Call, Take, Run, Report, Totals, Answer, Refused, Taken, Ran, Reported, Summed, arrived_in, left_in, partsteps_in, driven_in, off_in, out_in, partfeet_at, opened, answers, period_bytes}
 use Rattle.facility.specs.Verdicts.{unfinished, repeat_verdict, take_verdict, run_verdict, report_verdict}
@@ -83,7 +83,7 @@ said_filled =
     ∷ []
 
 -- the letter goes by the open lanes from the moment their sheet is taken, and still when it is run out. After 60 steps the worked study has 319,091,520
--- part-feet (document 02, Q-7), in its report and in the totals
+-- part-feet, in its report and in the totals
 abbrev lettered : List Call
 lettered = Report 1 ∷ Take (sheet 2) ∷ Run 60 ∷ Report 1 ∷ Totals ∷ Take (sheet 1) ∷ Report 1 ∷ Run 60 ∷ Report 1 ∷ []
 
@@ -125,7 +125,7 @@ said_carried =
     ∷ Reported (record { n = 3; q = 0; main = 3; ramp = 0; off = 1; out = 3 }) A (record { off = 59; out = 180 }) 237600
     ∷ []
 
--- zero bytes, document 02, Q-5: refused before any sheet (10), and while a period is unfinished (12); else the sheet in force once more, with its one open
+-- zero bytes: refused before any sheet (10), and while a period is unfinished (12); else the sheet in force once more, with its one open
 -- lane, after a refused sheet too and a second time: a period of 60 steps, in each of which 4,800 parts arrive. 00 is a sheet, of another NS (14). At the
 -- list's end the sheet in force has the bytes that its one taking used
 abbrev repeated : List Call
@@ -177,7 +177,7 @@ two_road =
 abbrev hundred : List ℕ
 hundred = 0x02 ∷ 0x64 ∷ 0x90 ∷ 0x4E ∷ 0x00 ∷ 0x00 ∷ 0x02 ∷ 0x00 ∷ 0x00 ∷ 0x02 ∷ []
 
--- part-feet, document 02, Q-7: all that left counts, by the off-ramp too, each with the length of its own segment. 200 have left the first after three
+-- part-feet: all that left counts, by the off-ramp too, each with the length of its own segment. 200 have left the first after three
 -- steps, and 75 the second: 200 × 660 = 132,000, 75 × 1,320 = 99,000, and 231,000 together
 abbrev driven : List Call
 driven = Totals ∷ Take hundred ∷ Run 3 ∷ Report 1 ∷ Report 2 ∷ Totals ∷ []

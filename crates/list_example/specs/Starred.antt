@@ -1,5 +1,4 @@
--- Document 01, "Merges, splits and a worked study": the starred examples as rows of one table, each held to the definitions. The study's
--- period ends in 02, its open lanes, as document 02, Q-1, has it.
+-- Manual 3.1 and 4.11: the worked examples as rows of one table, each held to the definitions.
 use Rattle.std.specs.Prelude.{ℕ, ◌≡◌, List, [], ◌∷◌, drop}
 use Rattle.numbers.specs.Number.{Reading, Read, Refused, read_number}
 use Rattle.numbers.specs.Row.{Rows, ReadRow, RefusedAt}
@@ -20,8 +19,8 @@ pub data Row : Type 0 where
   Number : (bytes : List ℕ) → Reading → Row
   -- a road's bytes, and the number and offset of their refusal
   Road : (bytes : List ℕ) (number offset : ℕ) → Row
-  -- a merge with P, N, M and W gives r and f
-  Merge : (P N M W r f : ℕ) → Row
+  -- a merge with P, w, M and W gives r and f
+  Merge : (P w M W r f : ℕ) → Row
   -- a split with s, F, D and the f ahead gives y and off(y); with s, F and D alone, Y0
   Split : (s F D f y off_y : ℕ) → Row
   Most : (s F D Y0 : ℕ) → Row
@@ -41,7 +40,7 @@ abbrev steps_after : Rows → List ℕ → ℕ → Steps
 steps_after (ReadRow row used) bytes k = steps_on (book_after (opened (padded row)) (Take (drop used bytes) ∷ Run k ∷ []))
 steps_after (RefusedAt number offset) bytes k = steps_on (opened [])
 
--- a split by the share s, with remainder 0 (document 02, Q-3: "Starred cases hold with remainder 0")
+-- a split by the share s, with remainder 0
 abbrev by : ℕ → SplitBy
 by s = record { share = s; remainder = 0 }
 
@@ -65,7 +64,7 @@ worked =
     0x01 ∷ 0xBE ∷ 0x01 ∷ 0x2D ∷ 0x07 ∷ 0xA8 ∷ 0x0A ∷ 0x02 ∷ 0x3C ∷ 0xB0 ∷ 0x22 ∷ 0x00 ∷ 0x00 ∷ 0x00
     ∷ 0x01 ∷ 0xC0 ∷ 0x25 ∷ 0x90 ∷ 0x4E ∷ 0x00 ∷ 0x00 ∷ 0x02 ∷ []
 
--- the starred examples, in the paper's order
+-- the worked examples
 abbrev pub table : List Row
 table =
     Number [] (Refused 1)

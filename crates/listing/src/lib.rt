@@ -1,4 +1,4 @@
-// Prints a forecast as documents 01 and 02 show it: the listing, or the one line of a refusal.
+// Prints a forecast as the manual shows it (9.2): the listing, or the one line of a refusal.
 #![tactic(auto)]
 
 use facility::Sums;

@@ -1,5 +1,4 @@
--- Document 01, "Sheets in seven-bit numbers", refusal 4: "a field is outside its range". A field is a number that has a range; the range
--- names its refusal, 14 for a period's NS.
+-- Manual 3.2, fields and refusal 4: a field is a number that has a range; the range names its refusal, 14 for a period's NS.
 use Rattle.std.specs.Prelude.{ℕ, ◌≤◌, List, ltb, if◌then◌else◌}
 use Rattle.refusals.specs.Numbers.{refusal_number}
 use Rattle.numbers.specs.declared.Range.{Range}

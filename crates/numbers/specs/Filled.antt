@@ -1,4 +1,4 @@
--- What the reader of a row answers: the row with zeros after it, to the places of the largest sheet, or the refusal.
+-- Manual 3.2, what the reader of a row answers: the row with zeros after it, to the places of the largest sheet, or the refusal.
 use Rattle.std.specs.Prelude.{ℕ, Result, Ok, Err}
 use Rattle.refusals.specs.Numbers.{refusal_number}
 use Rattle.refusals.specs.declared.Refused.{Refused}

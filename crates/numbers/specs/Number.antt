@@ -1,4 +1,4 @@
--- Document 01, "Sheets in seven-bit numbers": groups of seven bits, lowest group first, the top bit set on all groups but the last.
+-- Manual 3.1: groups of seven bits, lowest group first, the top bit set on all groups but the last.
 -- At most five groups, value at most 2 ^ 32 - 1, shortest form only.
 use Rattle.std.specs.Prelude.{ℕ, zero, suc, ◌+◌, ◌-◌, ◌*◌, ◌/◌, ◌%◌, ◌<◌, List, [], ◌∷◌, drop, get_or, ltb, if◌then◌else◌}
 use Rattle.std.specs.Prelude.{Result, Ok, Err}
@@ -6,7 +6,7 @@ use Rattle.refusals.specs.declared.Refusal.{Refusal}
 use Rattle.refusals.specs.Numbers.{refusal_number}
 use Rattle.numbers.specs.declared.Number.{Number}
 
--- what reading a number gives: its value and the place after it, or the refusal's number of the paper's table
+-- what reading a number gives: its value and the place after it, or the refusal's number of the table (7)
 pub data Reading : Type 0 where
   Read : ℕ → ℕ → Reading
   Refused : ℕ → Reading
@@ -16,7 +16,7 @@ abbrev pub reading : Result Number Refusal → Reading
 reading (Ok n) = Read n.value n.next
 reading (Err e) = Refused (refusal_number e)
 
--- the last group b. Refusal 3: "a number of two or more groups ends in a zero group"; least is 1 from the second group on
+-- the last group b. Refusal 3, a number of two or more groups ends in a zero group: least is 1 from the second group on
 unfoldable pub last : ℕ → ℕ → Reading
 last least b = if ltb b least then Refused 3 else Read b 1
 
@@ -26,7 +26,7 @@ more g (Read v n) = Read (g + 128 * v) (1 + n)
 more g (Refused e) = Refused e
 
 -- the number that starts the bytes, with at most k groups after its first: its value, and how many bytes it takes.
--- Refusal 1: "the bytes end before a number does". Refusal 2: "a fifth group has its top bit set or is above 15"
+-- Refusal 1: the bytes end before a number does. Refusal 2: a fifth group has its top bit set or is above 15
 unfoldable pub groups : ℕ → ℕ → List ℕ → Reading
 groups k least [] = Refused 1
 groups zero least (b ∷ bs) = if ltb 15 b then Refused 2 else last least b

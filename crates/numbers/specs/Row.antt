@@ -1,5 +1,5 @@
--- Document 01, "Sheets in seven-bit numbers": fields one after the other, refused with the offset of the field's first byte. Said once, for
--- every sheet; a sheet says how the field of each place is read.
+-- Manual 3.2: fields one after the other, refused with the offset of the field's first byte. Said once, for every sheet;
+-- a sheet says how the field of each place is read.
 use Rattle.std.specs.Prelude.{ℕ, zero, suc, ◌+◌, ◌-◌, ◌<◌, List, [], ◌∷◌, ◌++◌, length, get_or, replicate}
 use Rattle.numbers.specs.Number.{Reading, Read, Refused}
 

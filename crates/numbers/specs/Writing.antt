@@ -1,5 +1,5 @@
--- Document 01, "Sheets in seven-bit numbers": "The writer puts a sheet into a lent buffer from a place that the caller names; bytes outside
--- the written part keep their contents." Said once, of any bytes: a number's, a row's, a sheet's.
+-- Manual 3.6: bytes are written into a lent buffer from a place that the caller names; those outside the written part stay as they are. Said
+-- once, of any bytes: a number's, a row's, a sheet's.
 use Rattle.std.specs.Prelude.{ℕ, ◌+◌, Bool, List, ◌++◌, length, take, drop, leb, if◌then◌else◌}
 use Rattle.std.specs.Prelude.{Result, Ok, Err}
 use Rattle.refusals.specs.declared.Refusal.{Refusal}
@@ -19,7 +19,7 @@ writing (Err e) = Refused (refusal_number e)
 unfoldable pub room_at : List ℕ → ℕ → List ℕ → Bool
 room_at buffer at bytes = leb (at + length bytes) (length buffer)
 
--- refusal 7: "the buffer from the named place on is shorter than the sheet, or the place is past its end"
+-- refusal 7: the buffer from the named place on is shorter than the sheet, or the place is past its end
 unfoldable pub write_answer : List ℕ → ℕ → List ℕ → Writing
 write_answer buffer at bytes = if room_at buffer at bytes then Wrote (length bytes) else Refused 7
 

@@ -1,4 +1,4 @@
--- Document 01, "Road sheet" and "Period sheet": rows whose counted numbers are in the ranges of their places, as those of every reading are;
+-- Manual 3.3 and 3.4: rows whose counted numbers are in the ranges of their places, as those of every reading are;
 -- what stands after them is not looked at.
 use Rattle.std.specs.Prelude.{ℕ, zero, suc, Bool, true, ◌&&◌, List, [], get_or, leb}
 use Rattle.numbers.specs.declared.Range.{Range}

@@ -1,4 +1,4 @@
--- What the arithmetic above the sheets asks of a road and a period, by name (the ranges of the layout): no rule of document 01.
+-- What the arithmetic above the sheets asks of a road and a period, by name (the ranges of the layout): no rule of the manual.
 use Rattle.std.specs.Prelude.{ℕ, ◌≤◌, ◌<◌, ◌≡◌, List}
 use Rattle.parts.specs.declared.Segment.{Segment}
 use Rattle.parts.specs.declared.Entry.{Entry}

@@ -1,4 +1,4 @@
--- Document 01, "Road sheet" and "Period sheet", and document 02, Q-1, open lanes: the numbers of a road and of a period by name.
+-- Manual 3.3 and 3.4: the numbers of a road and of a period by name.
 use Rattle.std.specs.Prelude.{ℕ, ◌+◌, ◌*◌, List, get_or}
 use Rattle.sheets.specs.Layout.{lanes_of, opened_of}
 use Rattle.parts.specs.declared.RoadGlobals.{RoadGlobals}

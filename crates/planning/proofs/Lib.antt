@@ -1,3 +1,4 @@
 pub mod Refusals
 pub mod Worked
 pub mod NoFaster
+pub mod Handed

@@ -1,4 +1,4 @@
--- The claim of document 02's Q-6 holds of every sheet and carryover.
+-- The claim that nothing is faster than free flow holds of every sheet and carryover.
 use mathlib.Core.Path.{◌≡◌, refl, sym, subst, ◌∙◌}
 use mathlib.Core.Bool.{true}
 use mathlib.Core.List.{List}

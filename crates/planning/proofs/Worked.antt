@@ -9,8 +9,8 @@ use Rattle.numbers.specs.Field.{in_range, read_field}
 use Rattle.numbers.specs.Row.{fields, and_then, onto}
 use Rattle.numbers.specs.Filled.{filled}
 use Rattle.planning_sheet.specs.Listing.{first}
-use Rattle.letters.specs.declared.Level.TheVariants.{B, F}
-use Rattle.letters.specs.Level.{graded}
+use Rattle.levels.specs.declared.Level.TheVariants.{B, F}
+use Rattle.levels.specs.Level.{graded}
 use Rattle.sections.specs.Table.{tabled, row_of, row75, row70, row65, row60, row55}
 use Rattle.sections.specs.Section.{slowed, queued, no_answer, work_of, judged_of, answer_of, capacity_of, carried_of, ratio_of, curve_of, printed_of, under_of, over_of, travel_of, speed_of, density_of}
 use Rattle.sections.proofs.Worked.{bits}

@@ -1,3 +1,4 @@
 pub mod Plan
 pub mod View
 pub mod Statement
+pub mod Export

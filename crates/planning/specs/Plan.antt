@@ -1,7 +1,7 @@
--- Document 01, "Planning sheet", the whole call: from a sheet's bytes and the carryover to every number that it gives back, refused or not.
+-- Manual 11.5, the planning call: from a sheet's bytes and the carryover to every number that it gives back, refused or not.
 use Rattle.std.specs.Prelude.{ℕ, not, List, eqb, Float, length, replicate, if◌then◌else◌}
-use Rattle.letters.specs.declared.Level.{Level}
-use Rattle.letters.specs.declared.Level.TheVariants.{A}
+use Rattle.levels.specs.declared.Level.{Level}
+use Rattle.levels.specs.declared.Level.TheVariants.{A}
 use Rattle.sections.specs.Real.{real}
 use Rattle.sections.specs.Section.{SectionNumbers, Outcome, no_answer}
 use Rattle.planning_sheet.specs.Sheet.{Reads, ReadSections, NoSections, read_sheet}

@@ -1,4 +1,4 @@
--- Document 02, Q-6, "Faster than free flow": the claim on every sheet and carryover.
+-- Manual 11.6, never faster than free flow: the claim on every sheet and carryover.
 use Rattle.std.specs.Prelude.{ℕ, ◌≡◌, ◌<◌, List, length, get_or}
 use Rattle.sections.specs.Section.{SectionNumbers, no_answer}
 use Rattle.sections.specs.Claims.{NoFaster}

@@ -2,25 +2,19 @@
 // level of service, and the carryover of this period.
 #![tactic(auto)]
 
+mod export;
+mod planned;
+
 ghost use Rattle.std.specs.Prelude.{◌≡◌, Ok, length};
 ghost use Rattle.planning_sheet.specs.View.{sections_in};
 ghost use Rattle.planning.specs.Plan.{accepted_plan, plan_of};
 ghost use Rattle.planning.specs.View.{planned};
 
-use letters::Level;
+pub use export::freeway_plan;
+pub use planned::Planned;
 use planning_sheet::Sheet;
 use refusals::{Refusal, Refused};
-use sections::answer::Answer;
 use solving::Solved;
-
-// What a sheet gives: the bytes used; an answer for each section, free with zeros past the section count; the facility's density and level.
-#[derive(Clone, Copy)]
-pub struct Planned {
-    pub used: usize,
-    pub answers: [Answer; 64],
-    pub density: f64,
-    pub level: Level,
-}
 
 // The plan of a sheet under demands that every section may have.
 #[tactic(auto, unfolding(crate::specs::Plan::accepted_plan))]

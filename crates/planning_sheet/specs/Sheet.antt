@@ -1,4 +1,4 @@
--- Document 01, "Planning sheet": section count 1..64; per section length, lanes, FFS, CAF; then per section inflow and outflow.
+-- Manual 11.1: section count 1..64; per section length, lanes, FFS, CAF; then per section inflow and outflow.
 use Rattle.std.specs.Prelude.{ℕ, ◌+◌, ◌*◌, ◌%◌, Bool, ◌&&◌, List, leb, ltb, eqb, get_or, if◌then◌else◌}
 use Rattle.numbers.specs.declared.Range.{Range}
 use Rattle.refusals.specs.declared.Refusal.TheVariants.{OutOfRange}
@@ -26,7 +26,7 @@ section_field j v =
 unfoldable pub allowed_at : ℕ → ℕ → ℕ → Bool
 allowed_at n k v = if ltb k (4 * n) then section_field (k % 4) v else between 0 20000 v
 
--- a number that was read, held to its place. Refusal 4: "a field is outside its range"
+-- a number that was read, held to its place. Refusal 4: a field is outside its range
 unfoldable pub held_to : (count place : ℕ) → Reading → Reading
 held_to n k (Read v next) = if allowed_at n k v then Read v next else Refused 4
 held_to n k (Refused e) = Refused e

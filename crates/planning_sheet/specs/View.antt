@@ -1,4 +1,4 @@
--- A sheet as the code holds it: the list of its sections, and what reading it gave.
+-- Manual 11.1, a sheet as the code holds it: the list of its sections, and what reading it gave.
 use Rattle.std.specs.Prelude.{List, map, take, Result, Ok, Err}
 use Rattle.refusals.specs.Numbers.{refusal_number}
 use Rattle.refusals.specs.declared.Refused.{Refused}

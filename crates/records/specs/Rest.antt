@@ -1,4 +1,4 @@
--- What is left of a record (no rule of document 01).
+-- What is left of a record (no rule of the manual).
 use Rattle.std.specs.Prelude.{ℕ, ◌≡◌, ◌+◌, ◌<◌, ◌≤◌, ◌⊎◌, List, [], ◌∷◌, Some}
 use Rattle.text.specs.Text.{word_at, IsWord, IsNoWord, number_of}
 use Rattle.hexadecimal.specs.Spelling.{spelled, Bytes}

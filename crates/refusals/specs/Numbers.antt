@@ -1,4 +1,4 @@
--- Document 01, "Refusals that come from the input" and "Refusals that come from the state", and 16 of document 02, Q-3: the number of each.
+-- Manual 7, the refusals: the number of each.
 use Rattle.std.specs.Prelude.{ℕ, ◌+◌}
 use Rattle.refusals.specs.declared.Refusal.{Refusal}
 use Rattle.refusals.specs.declared.Refusal.TheVariants.{Cut, TooWide, NotShortest, OutOfRange, NoSuchRun, NoSuchSegment, NoRoom, CarryoverLength, EmptyFacility, NoPeriod, TooFewSteps, Unfinished, TooManyPeriods, OtherRoad, DemandOutside, LaneClosed}

@@ -1,4 +1,4 @@
--- What the arithmetic of the split asks of it: no rule of document 01.
+-- What the arithmetic of the split asks of it: no rule of the manual.
 use Rattle.std.specs.Prelude.{◌≤◌, ◌<◌}
 use Rattle.rules.specs.Rules.{Split}
 

@@ -1,4 +1,4 @@
--- What the code hands on of those who leave: no rule of document 01.
+-- What the code hands on of those who leave: no rule of the manual.
 use Rattle.std.specs.Prelude.{ℕ}
 use Rattle.rules.specs.declared.Outflow.{Outflow}
 use Rattle.rules.specs.Rules.{Split, remainder_after, through}

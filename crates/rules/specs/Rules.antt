@@ -1,5 +1,5 @@
--- Document 01, "One step": each rule as a formula, in the paper's order; C, the lowered C, J, Q and the lanes are those in force, which stand
--- in the conditions. Every difference is zero where it would be negative, J − n too (document 02, Q-1).
+-- Manual 4.3 to 4.8: each rule of a step as a formula, in the manual's order; C, the lowered C, J, Q and the lanes are those in force, which
+-- stand in the conditions (4.1). Every difference is zero where it would be negative, J − n too.
 use Rattle.std.specs.Prelude.{ℕ, zero, suc, ◌+◌, ◌-◌, ◌*◌, ◌/◌, ◌%◌, min, max, Bool, leb, if◌then◌else◌}
 use Rattle.rules.specs.declared.Flow.{Flow}
 
@@ -12,11 +12,11 @@ largest p (suc b) = if p (suc b) then suc b else largest p b
 unfoldable pub rounded_up : ℕ → ℕ → ℕ
 rounded_up a b = (a + (b - 1)) / b
 
--- D, wish to leave: the least of n, C and n × 22 × V / L rounded up
+-- D, wish to leave (4.3): the least of n, C and n × 22 × V / L rounded up
 unfoldable pub wish_to_leave : (parts capacity speed length : ℕ) → ℕ
 wish_to_leave n c v l = min n (min c (rounded_up (n * 22 * v) l))
 
--- what off(y) goes by (document 02, Q-3): the share s, and the remainder at the step's start
+-- what off(y) goes by (4.4): the share s, and the remainder at the step's start
 pub record Split : Type 0 where
   pub share : ℕ
   pub remainder : ℕ
@@ -37,23 +37,23 @@ through s y = y - off s y
 unfoldable pub most_leaving : Split → (offramp wish : ℕ) → ℕ
 most_leaving s f d = largest (λ y. leb (off s y) f) d
 
--- W, ramp wish: the lesser of q + ramp demand and the limit, which is the lesser of R and the meter rate
+-- W, ramp wish (4.5): the lesser of q + ramp demand and the limit, which is the lesser of R and the meter rate
 unfoldable pub ramp_wish : (queue demand limit : ℕ) → ℕ
 ramp_wish q d l = min (q + d) l
 
--- E, entrance capacity: the lowered one, C × (100 − A) / 100, behind a queue, else C
+-- E, entrance capacity (4.6): the lowered one, C × (100 − A) / 100, behind a queue, else C
 unfoldable pub entrance : (capacity lowered : ℕ) (queued : Bool) → ℕ
 entrance c l t = if t then l else c
 
--- P, supply: the least of E, J − n and C × (J − n) / (J − Q)
+-- P, supply (4.6): the least of E, J − n and C × (J − n) / (J − Q)
 unfoldable pub supply : (entrance capacity jam critical parts : ℕ) → ℕ
 supply e c j q n = min e (min (j - n) (c * (j - n) / (j - q)))
 
--- r, ramp flow: the smaller of W and the larger of (P − M, zero if negative) and P / (2 × N), N the lanes in force
+-- r, ramp flow (4.7): the smaller of W and the larger of (P − M, zero if negative) and P / (2 × w), w the lanes in force
 unfoldable pub ramp_flow : (supply lanes main_wish ramp_wish : ℕ) → ℕ
 ramp_flow p n m w = min w (max (p - m) (p / (2 * n)))
 
--- f, mainline flow at the entrance of a segment: the smaller of M and P − r. At the exit there is no P and no r; Step says f there
+-- f, mainline flow (4.7) at the entrance of a segment: the smaller of M and P − r. At the exit there is no P and no r; Step says f there
 unfoldable pub main_flow : (main_wish supply ramp_flow : ℕ) → ℕ
 main_flow m p r = min m (p - r)
 
@@ -61,6 +61,6 @@ main_flow m p r = min m (p - r)
 abbrev pub merge : (supply lanes main_wish ramp_wish : ℕ) → Flow
 merge p n m w = let r = ramp_flow p n m w in record { main = main_flow m p r; ramp = r }
 
--- y, leaving: the largest y up to Y0 with through(y) at most f(i + 1)
+-- y, leaving (4.8): the largest y up to Y0 with through(y) at most f(i + 1)
 unfoldable pub leaving : Split → (most ahead : ℕ) → ℕ
 leaving s b f = largest (λ y. leb (through s y) f) b

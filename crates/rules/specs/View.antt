@@ -1,4 +1,4 @@
--- What the code's split goes by, as that of the rules: no rule of document 01.
+-- What the code's split goes by, as that of the rules: no rule of the manual.
 use Rattle.rules.specs.declared.split.Split as code
 use Rattle.rules.specs.Rules.{Split}
 

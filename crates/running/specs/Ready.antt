@@ -1,4 +1,4 @@
--- What making k steps asks, so that the step rules' arithmetic fits: no rule of document 01, but what `run` shows before its steps.
+-- What making k steps asks, so that the step rules' arithmetic fits: no rule of the manual, but what `run` shows before its steps.
 use Rattle.std.specs.Prelude.{ℕ, ◌+◌, ◌≤◌, ◌<◌, true, ◌≡◌}
 use Rattle.door.specs.declared.Facility.{Facility}
 use Rattle.door.specs.Sound.{sound}

@@ -1,4 +1,4 @@
--- Document 01, "Calls on a facility", run k steps, and document 02, Q-4, the totals, and Q-7, part-feet: what a facility is after a step, and after k of them.
+-- Manual 6.4, run k steps, with the sums of 4.10: what a facility is after a step, and after k of them.
 use Rattle.std.specs.Prelude.{ℕ, zero, suc, ◌+◌, ◌-◌, List}
 use Rattle.conditions.specs.Conditions.{Conditions, SheetInForce, None, Under, conditions_of}
 use Rattle.steps.specs.Step.{stepped, arrived_of, left_of}

@@ -1,4 +1,4 @@
--- Worked sections just above E, before and after the floor of document 02's Q-6: the printed rate with the speed by it, and the answer, computed
+-- Worked sections just above E, before and after the floor of RU: the printed rate with the speed by it, and the answer, computed
 -- bit for bit. The values are those of an independent computation in f64.
 use mathlib.Core.Path.{◌≡◌, refl}
 use mathlib.Core.List.{List, [], ◌∷◌, map}

@@ -1,4 +1,4 @@
--- Document 02, Q-6: RU is never below zero, for every row and every ratio. Where the printed rate is, RU is zero; where it isn't, RU is that rate, bit
+-- RU is never below zero, for every row and every ratio. Where the printed rate is, RU is zero; where it isn't, RU is that rate, bit
 -- by bit, as it is in every row of the table at a ratio above 1.
 use mathlib.Core.Path.{◌≡◌, refl}
 use mathlib.Core.Bool.{Bool, true, false}

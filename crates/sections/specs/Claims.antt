@@ -1,4 +1,4 @@
--- Document 02, Q-6, "Faster than free flow": what is claimed of a section's answer.
+-- Manual 11.6, never faster than free flow: what is claimed of a section's answer.
 use Rattle.std.specs.Prelude.{◌≡◌, true, false, Float}
 use Rattle.std.specs.Float.Ieee.{le}
 use Rattle.sections.specs.Real.{real}

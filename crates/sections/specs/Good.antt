@@ -1,4 +1,4 @@
--- What the whole-number arithmetic of a section and the laws of its speed ask of it, each a bound or a test of the sheet: no rule of document 01.
+-- What the whole-number arithmetic of a section and the laws of its speed ask of it, each a bound or a test of the sheet: no rule of the manual.
 use Rattle.std.specs.Prelude.{◌≡◌, ◌≤◌, true}
 use Rattle.sections.specs.Section.{SectionNumbers}
 use Rattle.sections.specs.Table.{tabled}

@@ -1,4 +1,4 @@
--- A section as the code holds it: its six numbers.
+-- Manual 11.1, a section as the code holds it: its six numbers.
 use Rattle.sections.specs.declared.section.Section.{Section}
 use Rattle.sections.specs.Section.{SectionNumbers}
 

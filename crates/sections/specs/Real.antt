@@ -1,4 +1,4 @@
--- Document 01, "Planning sheet", "In f64, nearest values of these decimals": the f64 values and operations.
+-- Manual 11.3: the f64 nearest to a decimal, and the f64 operations.
 use Rattle.std.specs.Prelude.{ℕ, true, false, pos, Float}
 use Rattle.std.specs.Float.{binary64}
 use Rattle.std.specs.Float.Ieee.{of_int, round, add, sub, mul, div}

@@ -1,5 +1,4 @@
--- Document 01, "Planning sheet", and document 02, Q-6, RU below zero: one section, from its demand, in the paper's order of operations. Equation
--- numbers are document 000's.
+-- Manual 11.2 to 11.4, one section, from its demand, in the manual's order of operations. Equation numbers are those of the HCM, chapter 25.
 use Rattle.std.specs.Prelude.{ℕ, ◌+◌, ◌*◌, ◌-◌, ◌/◌, Bool, true, false, min, ltb, Float, if◌then◌else◌}
 use Rattle.std.specs.Float.Ieee.{lt}
 use Rattle.sections.specs.declared.table.Row.{Row}
@@ -18,11 +17,11 @@ pub record SectionNumbers : Type 0 where
   pub inflow : ℕ
   pub outflow : ℕ
 
--- c: the capacity (25-45, by all lanes and the section's factor)
+-- c (11.2): the capacity (25-45, by all lanes and the section's factor)
 unfoldable pub capacity_of : SectionNumbers → ℕ
 capacity_of s = (2200 + 10 * (min 70 s.ffs - 50)) * s.lanes * s.caf / 1000
 
--- the new carryover, max(d - c, 0) (25-44)
+-- the new carryover (11.2), max(d - c, 0) (25-44)
 unfoldable pub carried_of : SectionNumbers → ℕ → ℕ
 carried_of s d = d - capacity_of s
 
@@ -38,7 +37,7 @@ curve_of r w = ((r.a ⊗ w ⊕ r.b) ⊗ w ⊕ r.c) ⊗ w ⊕ r.d
 unfoldable pub printed_of : Row → Float → Float
 printed_of r p = if lt p r.e then real 0 else curve_of r (if lt (real 1) p then real 1 else p)
 
--- RU: the same, but zero where that is below zero (document 02, Q-6)
+-- RU: the same, but zero where that is below zero
 unfoldable pub under_of : Row → Float → Float
 under_of r p = if lt (printed_of r p) (real 0) then real 0 else printed_of r p
 
@@ -104,6 +103,6 @@ queued_in (free v k) = false
 queued_in (slowed ru v k) = false
 queued_in (queued ru ro v k) = true
 
--- L x lanes
+-- L x lanes (11.4)
 abbrev pub area_of : SectionNumbers → ℕ
 area_of s = s.length * s.lanes

@@ -1,4 +1,4 @@
--- Document 01, "Planning sheet": the table of A, B, C, D and E by free-flow speed (document 000, Exhibit 25-16).
+-- Manual 11.3: the table of A, B, C, D and E by free-flow speed (HCM Exhibit 25-16).
 use Rattle.std.specs.Prelude.{ℕ, Bool, ◌||◌, eqb, if◌then◌else◌}
 use Rattle.std.specs.Float.Ieee.{round}
 use Rattle.sections.specs.declared.table.Row.{Row}

@@ -1,4 +1,4 @@
--- What a segment holds, and has let out, at most after so many steps, so that the step's arithmetic fits: no rule of document 01.
+-- What a segment holds, and has let out, at most after so many steps, so that the step's arithmetic fits: no rule of the manual.
 use Rattle.std.specs.Prelude.{ℕ, ◌*◌, ◌≤◌, ◌<◌}
 use Rattle.segment.specs.declared.Cell.{Cell}
 use Rattle.segment.specs.declared.tally.Tally.{Tally}

@@ -1,4 +1,4 @@
--- What the code carries from a segment to the node ahead, and from a node to the segment behind it: no rule of document 01.
+-- What the code carries from a segment to the node ahead, and from a node to the segment behind it: no rule of the manual.
 use Rattle.std.specs.Prelude.{ℕ, ◌-◌}
 use Rattle.conditions.specs.declared.InForce.{InForce}
 use Rattle.rules.specs.declared.Flow.{Flow}

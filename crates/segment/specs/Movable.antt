@@ -1,4 +1,4 @@
--- What moving a cell on asks: no rule of document 01.
+-- What moving a cell on asks: no rule of the manual.
 use Rattle.std.specs.Prelude.{◌+◌, ◌-◌, ◌≤◌, ◌≡◌}
 use Rattle.conditions.specs.declared.InForce.{InForce}
 use Rattle.segment.specs.declared.Cell.{Cell}

@@ -1,4 +1,4 @@
--- Document 01, "One step": the rules at one segment, from what is in force there, its cell, and what comes from its neighbours.
+-- Manual 4.3 to 4.9: the rules at one segment, from what is in force there, its cell, and what comes from its neighbours.
 use Rattle.std.specs.Prelude.{ℕ, ◌+◌, ◌-◌, Bool, ltb}
 use Rattle.conditions.specs.declared.InForce.{InForce}
 use Rattle.segment.specs.declared.Cell.{Cell}

@@ -1,4 +1,4 @@
--- Document 02, Q-4: a segment's totals since its road was laid, and what a step adds to them.
+-- Manual 4.10: a segment's totals since its road was laid, and what a step adds to them.
 use Rattle.std.specs.Prelude.{◌+◌}
 use Rattle.segment.specs.declared.Cell.{Cell}
 use Rattle.segment.specs.declared.tally.Tally.{Tally}

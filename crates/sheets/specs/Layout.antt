@@ -1,5 +1,4 @@
--- Document 01, "Road sheet" and "Period sheet", and document 02, Q-1, open lanes, and Q-2, the layout before these: how many numbers each
--- has, and the range of each place.
+-- Manual 3.3 to 3.5, the road sheet and the period sheet in its two layouts: how many numbers each has, and the range of each place.
 use Rattle.std.specs.Prelude.{ℕ, ◌+◌, ◌-◌, ◌*◌, ◌/◌, ◌%◌, min, max, List, [], ◌∷◌, get_or, length, ltb, eqb, ◌≡◌, if◌then◌else◌}
 use Rattle.refusals.specs.declared.Refusal.TheVariants.{OutOfRange, OtherRoad}
 use Rattle.numbers.specs.declared.Range.{Range}

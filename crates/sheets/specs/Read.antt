@@ -1,5 +1,4 @@
--- Document 01, "Sheets in seven-bit numbers": what reading a road or a period sheet gives (the period with document 02, Q-1, open lanes, and in
--- the first layout, Q-2).
+-- Manual 3.2 to 3.5: what reading a road or a period sheet gives, the latter in either layout.
 use Rattle.std.specs.Prelude.{ℕ, List, [], replicate, get_or, Result, Ok, Err}
 use Rattle.refusals.specs.Numbers.{refusal_number}
 use Rattle.refusals.specs.declared.Refused.{Refused as RefusedPlace}
@@ -15,7 +14,7 @@ use Rattle.sheets.specs.Layout.{road_range, range_of, count_of}
 abbrev pub field_of : Layout → (road bytes : List ℕ) → (place at : ℕ) → Reading
 field_of l road bytes k at = read_field (range_of l road k) bytes at
 
--- a sheet of the layout: "a reading uses a leading part of the bytes and tells how many bytes it used"
+-- a sheet of the layout: a reading uses a leading part of the bytes and tells how many bytes it used
 unfoldable pub read_row : Layout → (road bytes : List ℕ) → Rows
 read_row l road bytes = fields (field_of l road bytes) (count_of l) 0 0
 
@@ -46,7 +45,7 @@ pub record SheetReading : Type 0 where
   pub used : ℕ
   pub row : List ℕ
 
--- "beside a refusal's number and offset, every other number returned is 0"
+-- beside a refusal's number and offset every other number is 0
 unfoldable pub sheet_reading : Rows → SheetReading
 sheet_reading (ReadRow row n) = record { refusal = 0; offset = 0; used = n; row = padded row }
 sheet_reading (RefusedAt e at) = record { refusal = e; offset = at; used = 0; row = replicate 452 0 }

@@ -1,4 +1,4 @@
--- Document 01, "Sheets in seven-bit numbers": the bytes of a road or a period sheet.
+-- Manual 3.6: the bytes of a road or a period sheet.
 use Rattle.std.specs.Prelude.{ℕ, List, [], ◌∷◌, ◌++◌, take, get_or}
 use Rattle.numbers.specs.Number.{number_bytes}
 use Rattle.sheets.specs.declared.Layout.{Layout}

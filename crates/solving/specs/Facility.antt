@@ -1,10 +1,10 @@
--- Document 01, "Planning sheet": "Facility density: the sum of density x (L x lanes) over the sum of L x lanes, sections in order; its
--- letter is by the limits 11, 18, 26, 35, 45, and F if any section is queued" (document 000, Exhibit 25-17, urban).
+-- Manual 11.4: the facility's density is the sum of density x (L x lanes) over the sum of L x lanes, sections in order; its letter is by the
+-- limits 11, 18, 26, 35, 45, and F if any section is queued (HCM Exhibit 25-17, urban).
 use Rattle.std.specs.Prelude.{ℕ, zero, suc, ◌+◌, Bool, false, ◌||◌, List, length, get_or, Float, if◌then◌else◌}
 use Rattle.std.specs.Float.Ieee.{le}
-use Rattle.letters.specs.declared.Level.{Level}
-use Rattle.letters.specs.declared.Level.TheVariants.{F}
-use Rattle.letters.specs.Level.{graded}
+use Rattle.levels.specs.declared.Level.{Level}
+use Rattle.levels.specs.declared.Level.TheVariants.{F}
+use Rattle.levels.specs.Level.{graded}
 use Rattle.sections.specs.Real.{real, ◌⊕◌, ◌⊗◌, ◌⊘◌}
 use Rattle.sections.specs.Section.{SectionNumbers, Outcome, answer_of, no_answer, density_in, queued_in, area_of}
 use Rattle.planning_sheet.specs.Listing.{first_padded}

@@ -7,7 +7,7 @@ ghost use Rattle.sections.specs.Numbers.{numbers_of};
 ghost use Rattle.planning_sheet.specs.View.{sections_in};
 ghost use Rattle.solving.specs.Facility.{added_of, answers_of, totals_of, facility_density, tells_within, letter_of};
 
-use letters::{Level, graded};
+use levels::{Level, graded};
 use planning_sheet::list::Sections;
 use sections::answer::Answer;
 use sections::section::Section;

@@ -1,4 +1,4 @@
--- What a state, the totals and the part-feet hold at most after so many steps, so that the step's arithmetic fits: no rule of document 01.
+-- What a state, the totals and the part-feet hold at most after so many steps, so that the step's arithmetic fits: no rule of the manual.
 use Rattle.std.specs.Prelude.{ℕ, ◌*◌, ◌≤◌, ◌<◌, List}
 use Rattle.steps.specs.declared.State.{State}
 use Rattle.steps.specs.Step.{cell_in}

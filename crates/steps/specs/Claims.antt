@@ -1,5 +1,5 @@
--- Document 01, "The list statement", with document 02, Q-1, the jam clause, and Q-3, the remainder: the claims on one step, from its conditions and
--- the states before and after; the flows are those that the state after tells, capacity, jam and share those in force in the step.
+-- Manual 8.2: the claims on one step, from its conditions and the states before and after; the flows are those that the state after tells,
+-- capacity, jam and share those in force in the step.
 use Rattle.std.specs.Prelude.{ℕ, zero, suc, ◌+◌, ◌*◌, ◌≤◌, ◌<◌, min, ◌≡◌, ltb, if◌then◌else◌}
 use Rattle.steps.specs.declared.State.{State}
 use Rattle.conditions.specs.Conditions.{Conditions, in_force_at}

@@ -1,4 +1,4 @@
--- Document 02, Q-7, vehicle-miles in part-feet (240 × 5,280 to one): those of each segment since the laying, over the road; a step adds each
+-- Manual 2.2 and 4.10, vehicle-miles in part-feet (240 × 5,280 to one): those of each segment since the laying, over the road; a step adds each
 -- segment's own y × L.
 use Rattle.std.specs.Prelude.{ℕ, ◌+◌, ◌*◌, List, get_or, replicate}
 use Rattle.conditions.specs.Conditions.{Conditions, in_force_at}

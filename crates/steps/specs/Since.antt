@@ -1,4 +1,4 @@
--- What the code adds for the steps of a run at once: no rule of documents 01 and 02. `running` shows that it is what the steps add one by one.
+-- What the code adds for the steps of a run at once: no rule of the manual. `running` shows that it is what the steps add one by one.
 use Rattle.std.specs.Prelude.{ℕ, ◌+◌, ◌-◌, ◌*◌, List}
 use Rattle.segment.specs.declared.tally.Tally.{Tally}
 use Rattle.conditions.specs.Conditions.{Conditions, in_force_at}

@@ -1,4 +1,4 @@
--- Document 01, "One step": the rules wired over the road, every value from the state at the step's start.
+-- Manual 4.2 to 4.10: the rules wired over the road, every value from the state at the step's start.
 -- Segments and nodes are counted from 0: node i is the entrance of segment i, node NS is the exit.
 use Rattle.std.specs.Prelude.{ℕ, zero, suc, ◌+◌, ◌-◌, min, Bool, List, get_or, replicate, set, ltb, if◌then◌else◌}
 use Rattle.segment.specs.declared.Cell.{Cell}

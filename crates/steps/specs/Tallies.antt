@@ -1,4 +1,4 @@
--- Document 02, Q-4: the segments' totals since the laying, over the road; a step adds each segment's own off(y) and y.
+-- Manual 4.10: the segments' totals since the laying, over the road; a step adds each segment's own off(y) and y.
 use Rattle.std.specs.Prelude.{ℕ, List, get_or, replicate}
 use Rattle.segment.specs.declared.tally.Tally.{Tally}
 use Rattle.segment.specs.Tally.{no_tally, with_step}

@@ -14,7 +14,7 @@ use std::io::Write;
 fn say_cell<W: Write>(output: &mut W, f: &Facility, i: u32, cell: &Cell) -> io::Result<()> {
     let length = parts::segment_at(&f.road, i).length;
     let opened = parts::entry_at(&f.period, i).opened;
-    let level = letters::level_of(cell.n, length, opened);
+    let level = levels::level_of(cell.n, length, opened);
     let number = u64::from(i) + 1;
     write!(output, "  {number} n {} q {}", cell.n, cell.q)?;
     write!(

@@ -1,5 +1,5 @@
-// Runs every study on standard input, one a line, and prints its name and its listing:
-//     NAME HEX    NAME first HEX
+// Runs every study on standard input, one a line, and prints its name and its listing, its letters period by period, or its picture:
+//     NAME HEX    NAME first HEX    NAME letters HEX    NAME contour HEX
 // HEX is the study's bytes in hexadecimal. One of the first layout is converted to the second, and where that is refused, the refusal is
 // printed.
 #![tactic(auto)]
@@ -40,6 +40,8 @@ fn play<W: Write>(output: &mut W, record: &[u8]) -> io::Result<()> {
     writeln!(output)?;
     match text::next_word(rest) {
         Some((b"first", rest)) => play_study(output, rest, print_first),
+        Some((b"letters", rest)) => play_study(output, rest, drawing::print_letters),
+        Some((b"contour", rest)) => play_study(output, rest, drawing::print_contour),
         _ => play_study(output, rest, listing::print_study),
     }
 }

@@ -1,4 +1,5 @@
+pub mod Numbers
 pub mod Lines
 pub mod Periods
+pub mod Told
 pub mod Foot
-pub mod Numbers

@@ -1,4 +1,4 @@
--- A study on its way: the facility shows a book of the ledger, and the rest of the forecast is the one from that book on.
+-- A study on its way: the facility shows a book of the ledger, and what the study comes to is what it comes to from that book on.
 use Prim.Native.Nat.{ℕ, zero, suc, ◌+◌, ◌-◌, ◌≤◌, ◌<◌}
 use mathlib.Core.Bool.{Bool, true, false, ◌&&◌}
 use mathlib.Core.Path.{◌≡◌, refl, sym, ap, subst, ◌∙◌}
@@ -21,7 +21,7 @@ use Rattle.door.specs.declared.Facility.{Facility}
 use Rattle.door.specs.Sound.{sound}
 use Rattle.facility.specs.Calls.{Reply, refused, done, taken_by, laid_by, lay_of, take_of, run_of}
 use Rattle.facility.specs.Results.{replied}
-use Rattle.facility.specs.Ledger.{Take, Run, Answer, Refused, Taken, Ran, Book, Rules, present, take_by, opened, taken_as, with_taking, ran_as, with_run, answer_by, after_by, answer, after}
+use Rattle.facility.specs.Ledger.{Take, Run, Answer, Refused, Taken, Ran, Book, Rules, present, conditions_by, take_by, more_steps, opened, taken_as, with_taking, with_steps, ran_as, with_run, answer_by, after_by, answer, after}
 use Rattle.facility.specs.Verdicts.{Verdict, GoesOn, Taking, NewSheet, SameSheet, NotTaken, as_read, unfinished, run_verdict}
 use Rattle.facility.proofs.Verdicts.{take_cases, run_goes}
 use Rattle.facility.specs.View.{view}
@@ -29,10 +29,9 @@ use Rattle.facility.specs.Answers.{take_says, run_says}
 use Rattle.facility.proofs.Trail.{KeptBook, kept_opened, kept_after}
 use Rattle.facility.proofs.OneCall.{view_opened, sound_view, takes, runs}
 use Rattle.facility.proofs.Lists.{run_keeps}
-use Rattle.study.specs.Forecast.{refused_listing, Ended, listing, after_sheet, whole, whole_period, periods, on_road, outcome_by, forecast_by, forecast_of}
-use Rattle.study.specs.Shown.{TakenAt, shown, told}
+use Rattle.study.specs.Forecast.{Outcome, Ended, RefusedStudy, after_sheet, whole, whole_period, periods, on_road, outcome_by}
+use Rattle.study.specs.Shown.{TakenAt}
 use Rattle.sheets.proofs.Within.{RowWithin, road_within, period_within}
-use Rattle.study.proofs.Lines.{shows}
 
 -- ---- a taking stays within its bytes: what it used, and the offset of its refusal
 ReplyWithin : ℕ → Reply → Type 0
@@ -94,6 +93,12 @@ pub finished : (taken made : ℕ) → 60 ≤ made → unfinished taken made ≡ 
 unfolding unfinished
 finished taken made h = rw (le-ltb made 60 h) (and_false (ltb 0 taken))
 
+-- a taking makes no step
+trail_kept : (b : Book) (t : Taking) → (with_taking b t).trail ≡ b.trail
+trail_kept b (NewSheet row n) = refl
+trail_kept b SameSheet = refl
+trail_kept b (NotTaken number offset) = refl
+
 module _ (rules : Rules) (b : Book) (s : List ℕ) (used : ℕ) (e : answer_by rules b (Take s) ≡ Taken used) where
   begun : Begun b (after_by rules b (Take s))
   begun = begun_by b (take_by rules b s) used e
@@ -105,6 +110,13 @@ module _ (rules : Rules) (b : Book) (s : List ℕ) (used : ℕ) (e : answer_by r
 
   pub run_whole : answer_by rules (after_by rules b (Take s)) (Run whole) ≡ Ran
   run_whole = ap ran_as goes_whole
+
+  -- the period's steps are made on the trail as it was, under what is then in force
+  whole_trail : (whole_period rules b s).trail ≡ more_steps (conditions_by rules (whole_period rules b s)) whole b.trail
+  whole_trail =
+      let next = after_by rules b (Take s) in
+      let made : whole_period rules b s ≡ with_steps rules whole next = ap (with_run rules next whole) goes_whole in
+      rw made (ap (more_steps (conditions_by rules next) whole) (trail_kept b (take_by rules b s)))
 
   -- and after it no step is left, so that no taking of a study is refused by 12
   run_out : unfinished (whole_period rules b s).taken (whole_period rules b s).made ≡ false
@@ -124,48 +136,59 @@ pub record Turn (bytes : List ℕ) (f : Facility) (at : ℕ) : Type 0 where
   pub up_to : at ≤ length bytes
   pub rest : outcome_by present bytes ≡ periods present most book bytes at
 
-laid_by_lem : (bytes : List ℕ) (r : Rows) → read_road bytes ≡ r → (laid : Reply) → laid ≡ laid_by r → laid.refusal ≡ 0 → Turn bytes laid.facility laid.used
+-- one that starts, with no sheet taken
+abbrev pub Start : (bytes : List ℕ) → Facility → ℕ → Type 0
+Start bytes f at = (t : Turn bytes f at) × (t.book.taken ≡ 0)
+
+-- one a period later: a sheet more is taken, and its steps are made on the trail as it was
+pub record Later (bytes : List ℕ) (before : Book) (f : Facility) (at : ℕ) : Type 0 where
+  pub turn : Turn bytes f at
+  pub one_more : turn.book.taken ≡ before.taken + 1
+  pub steps : turn.book.trail ≡ more_steps (conditions_by present turn.book) whole before.trail
+
+laid_by_lem : (bytes : List ℕ) (r : Rows) → read_road bytes ≡ r → (laid : Reply) → laid ≡ laid_by r → laid.refusal ≡ 0 → Start bytes laid.facility laid.used
 unfolding outcome_by unfinished
 laid_by_lem bytes (ReadRow row used) e laid is z =
-    let end : laid.used ≡ used = ap (λ (q : Reply). q.used) is in
-    record {
-      book = opened (padded row);
-      kept = kept_opened (padded row) (read_road_allowed bytes row used e);
-      view = ap (λ (q : Reply). q.facility) is ∙ view_opened (padded row) (read_road_allowed bytes row used e);
-      idle = refl;
-      most = 97;
-      count = refl;
-      up_to = omega (arith, rw e at (road_within bytes));
-      rest = ap (on_road present bytes) e ∙ ap (periods present 97 (opened (padded row)) bytes) (sym end);
-    }
+    let end : laid.used ≡ used = ap (λ (q : Reply). q.used) is in (
+      record {
+        book = opened (padded row);
+        kept = kept_opened (padded row) (read_road_allowed bytes row used e);
+        view = ap (λ (q : Reply). q.facility) is ∙ view_opened (padded row) (read_road_allowed bytes row used e);
+        idle = refl;
+        most = 97;
+        count = refl;
+        up_to = omega (arith, rw e at (road_within bytes));
+        rest = ap (on_road present bytes) e ∙ ap (periods present 97 (opened (padded row)) bytes) (sym end);
+      },
+      refl,
+    )
 laid_by_lem bytes (RefusedAt number offset) e laid is z = absurd (omega (arith, road_refusal bytes number offset e, ap (λ (q : Reply). q.refusal) is))
 
 -- a road that was laid starts the study; one that was not is its answer
-pub begins : (bytes : List ℕ) (laid : Reply) → laid ≡ lay_of bytes → laid.refusal ≡ 0 → Turn bytes laid.facility laid.used
+begins : (bytes : List ℕ) (laid : Reply) → laid ≡ lay_of bytes → laid.refusal ≡ 0 → Start bytes laid.facility laid.used
 unfolding lay_of
 begins bytes laid is z = laid_by_lem bytes (read_road bytes) refl laid is z
 
 not_laid_by : (bytes : List ℕ) (r : Rows) (laid : Reply) → laid ≡ laid_by r → (laid.refusal ≡ 0 → ⊥)
-    → refused_listing laid.refusal laid.offset ≡ listing present (on_road present bytes r)
+    → on_road present bytes r ≡ RefusedStudy laid.refusal laid.offset
 not_laid_by bytes (ReadRow row used) laid is n = absurd (n (ap (λ (q : Reply). q.refusal) is))
-not_laid_by bytes (RefusedAt number offset) laid is n = ap (λ (q : Reply). refused_listing q.refusal q.offset) is
+not_laid_by bytes (RefusedAt number offset) laid is n = ap (λ (q : Reply). RefusedStudy q.refusal q.offset) (sym is)
 
-pub begins_at : (bytes : List ℕ) (answer : Result ℕ RefusedCall) (f : Facility) (at : ℕ) → answer ≡ Ok at → replied answer f ≡ lay_of bytes → Turn bytes f at
-begins_at bytes (Ok n) f at e h = let same : n ≡ at = cc in subst (Turn bytes f) same (begins bytes (done n f) h refl)
+pub begins_at : (bytes : List ℕ) (answer : Result ℕ RefusedCall) (f : Facility) (at : ℕ) → answer ≡ Ok at → replied answer f ≡ lay_of bytes → Start bytes f at
+begins_at bytes (Ok n) f at e h = let same : n ≡ at = cc in subst (Start bytes f) same (begins bytes (done n f) h refl)
 begins_at bytes (Err r) f at e h = cc
 
-pub not_begun : (bytes : List ℕ) (laid : Reply) → laid ≡ lay_of bytes → (laid.refusal ≡ 0 → ⊥)
-    → refused_listing laid.refusal laid.offset ≡ forecast_of bytes
-unfolding lay_of outcome_by forecast_by
-not_begun bytes laid is n = not_laid_by bytes (read_road bytes) laid is n
+-- what a refused study comes to
+abbrev pub refused_by : RefusedCall → Outcome
+refused_by e = RefusedStudy (refusal_number e.refusal) e.offset
 
 pub not_laid : (bytes : List ℕ) (answer : Result ℕ RefusedCall) (f : Facility) (e : RefusedCall) → answer ≡ Err e → replied answer f ≡ lay_of bytes
-    → told (Err e) ≡ forecast_of bytes
+    → outcome_by present bytes ≡ refused_by e
+unfolding lay_of outcome_by
 not_laid bytes (Ok n) f e h k = cc
 not_laid bytes (Err r) f e h k =
     let same : r ≡ e = cc in
-    ap (λ (x : RefusedCall). told (Err x)) (sym same)
-    ∙ not_begun bytes (refused f (refusal_number r.refusal) r.offset) k (λ z. omega (arith, refusal_named r.refusal))
+    not_laid_by bytes (read_road bytes) (refused f (refusal_number r.refusal) r.offset) k (λ z. omega (arith, refusal_named r.refusal)) ∙ ap refused_by same
 
 -- a sheet more is looked at while the bytes go on, and none where they end
 pub sheet_by_lem : (rules : Rules) (most : ℕ) (b : Book) (bytes : List ℕ) (at : ℕ) → 0 < most → at < length bytes
@@ -197,11 +220,8 @@ module _ (bytes : List ℕ) (f : Facility) (at : ℕ) (p : Turn bytes f at) wher
   turn_sound = rw p.view (sound_view p.book p.kept, (good_road p.book.road p.kept.road).segments.1)
 
   -- the end of the file
-  pub ends : length bytes ≤ at → shown f ≡ forecast_of bytes
-  unfolding forecast_by
-  ends h =
-      let end = p.rest ∙ end_by present p.most p.book bytes at h in
-      rw p.view (shows p.book p.kept ∙ sym (ap (listing present) end))
+  pub ends : length bytes ≤ at → outcome_by present bytes ≡ Ended p.book
+  ends h = p.rest ∙ end_by present p.most p.book bytes at h
 
   -- a sheet that the bytes from the place on give
   module _ (inside : at < length bytes) (r : Reply) (gave : r ≡ take_of f (drop at bytes)) where
@@ -218,9 +238,8 @@ module _ (bytes : List ℕ) (f : Facility) (at : ℕ) (p : Turn bytes f at) wher
 
     module _ (n : r.refusal ≡ 0 → ⊥) where
       -- a refused sheet: its place
-      pub refuses : refused_listing r.refusal (at + r.offset) ≡ forecast_of bytes
-      unfolding forecast_by
-      refuses = sym (ap (listing present) (rw (ne_eqb r.refusal 0 n) at turns))
+      refuses : outcome_by present bytes ≡ RefusedStudy r.refusal (at + r.offset)
+      refuses = rw (ne_eqb r.refusal 0 n) at turns
 
     module _ (z : r.refusal ≡ 0) where
       taken : answer p.book (Take (drop at bytes)) ≡ Taken r.used
@@ -258,16 +277,20 @@ module _ (bytes : List ℕ) (f : Facility) (at : ℕ) (p : Turn bytes f at) wher
         one_taken =
             ap (λ (g : Facility). g.taken) view_next ∙ taken_next ∙ ap (λ (g : Facility). g.taken + 1) (sym p.view)
 
-        pub goes_on : Turn bytes ran.facility (at + r.used)
+        pub goes_on : Later bytes p.book ran.facility (at + r.used)
         goes_on = record {
-          book = whole_period present p.book (drop at bytes);
-          kept = kept_after (after p.book (Take (drop at bytes))) (Run whole) (kept_after p.book (Take (drop at bytes)) p.kept);
-          view = view_next;
-          idle = run_out present p.book (drop at bytes) r.used taken;
-          most = p.most - 1;
-          count = omega (arith, p.count, p.kept.few, taken_next);
-          up_to = next_within;
-          rest = rw (eq-eqb r.refusal 0 z) at turns;
+          turn = record {
+            book = whole_period present p.book (drop at bytes);
+            kept = kept_after (after p.book (Take (drop at bytes))) (Run whole) (kept_after p.book (Take (drop at bytes)) p.kept);
+            view = view_next;
+            idle = run_out present p.book (drop at bytes) r.used taken;
+            most = p.most - 1;
+            count = omega (arith, p.count, p.kept.few, taken_next);
+            up_to = next_within;
+            rest = rw (eq-eqb r.refusal 0 z) at turns;
+          };
+          one_more = taken_next;
+          steps = whole_trail present p.book (drop at bytes) r.used taken;
         }
 
   pub few_taken : f.taken ≤ 96
@@ -275,20 +298,20 @@ module _ (bytes : List ℕ) (f : Facility) (at : ℕ) (p : Turn bytes f at) wher
 
   -- ---- by the places in the bytes
   module _ (inside : at < length bytes) where
-    pub refuses_at : (e : RefusedCall) (g : Facility) → TakenAt bytes at (Err e) g (take_of f (drop at bytes)) → told (Err e) ≡ forecast_of bytes
+    pub refuses_at : (e : RefusedCall) (g : Facility) → TakenAt bytes at (Err e) g (take_of f (drop at bytes)) → outcome_by present bytes ≡ refused_by e
     refuses_at e g (h, gave) =
         let back : at + (e.offset - at) ≡ e.offset = omega arith in
-        ap (refused_listing (refusal_number e.refusal)) (sym back)
-        ∙ refuses inside (refused g (refusal_number e.refusal) (e.offset - at)) gave (λ z. omega (arith, refusal_named e.refusal))
+        refuses inside (refused g (refusal_number e.refusal) (e.offset - at)) gave (λ z. omega (arith, refusal_named e.refusal))
+        ∙ ap (RefusedStudy (refusal_number e.refusal)) back
 
     module _ (end : ℕ) (g : Facility) (taken-at : TakenAt bytes at (Ok end) g (take_of f (drop at bytes))) (next : Facility) where
       pub taken_more : done 0 next ≡ run_of g whole → next.taken ≡ f.taken + 1
       taken_more e = one_taken inside (done (end - at) g) taken-at.2 refl (done 0 next) e
 
-      pub turns_on : done 0 next ≡ run_of g whole → Turn bytes next end
+      pub turns_on : done 0 next ≡ run_of g whole → Later bytes p.book next end
       turns_on e =
           let back : at + (end - at) ≡ end = omega (arith, taken-at.0) in
-          subst (Turn bytes next) back (goes_on inside (done (end - at) g) taken-at.2 refl (done 0 next) e)
+          subst (Later bytes p.book next) back (goes_on inside (done (end - at) g) taken-at.2 refl (done 0 next) e)
 
       -- the period's run is never refused
       pub runs_whole : (r : Refusal) → refused next (refusal_number r) 0 ≡ run_of g whole → ⊥

@@ -1,16 +1,19 @@
--- A forecast as 265 numbers, in the order of the header, for programs in C and Rust: no rule of document 01.
+-- Manual 13.1: a forecast as 265 numbers, in the order of the header, for programs in C and Rust.
 use Rattle.std.specs.Prelude.{ℕ, List, [], ◌∷◌, ◌++◌, length, drop, ltb, if◌then◌else◌}
+use Rattle.exports.specs.Rows.{joined}
 use Rattle.study.specs.Forecast.{Line, Listing, forecast_of}
 
--- n, q, the letter and the part-feet of each line
-unfoldable pub line_numbers : List Line → List ℕ
-line_numbers [] = []
-line_numbers (l ∷ ls) = l.n ∷ l.q ∷ l.letter ∷ l.partfeet ∷ line_numbers ls
+-- n, q, the letter and the part-feet of a line
+unfoldable pub line_row : Line → List ℕ
+line_row l = l.n ∷ l.q ∷ l.letter ∷ l.partfeet ∷ []
 
--- the refusal's number and place, NS, the totals, o, and the 64 lines
+-- the refusal's number and place, NS, the totals, and o
+abbrev pub head_row : Listing → List ℕ
+head_row x = x.refusal ∷ x.place ∷ x.segments ∷ x.arrived ∷ x.left ∷ x.stored ∷ x.partsteps ∷ x.partfeet ∷ x.origin ∷ []
+
+-- these, and the 64 lines behind them
 unfoldable pub listing_numbers : Listing → List ℕ
-listing_numbers x =
-    x.refusal ∷ x.place ∷ x.segments ∷ x.arrived ∷ x.left ∷ x.stored ∷ x.partsteps ∷ x.partfeet ∷ x.origin ∷ line_numbers x.lines
+listing_numbers x = head_row x ++ joined line_row x.lines
 
 -- how many: nine, and four for each of 64 lines
 abbrev pub room : ℕ

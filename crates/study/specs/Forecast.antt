@@ -1,11 +1,10 @@
--- Document 01, "Merges, splits and a worked study", the program `forecast`, and document 02, Q-7, part-feet: a whole study, from the bytes of its file
--- to what the listing shows, by the ledger alone.
+-- Manual 9.1 and 9.2, a study and its listing: from the bytes of the file to what the listing shows, by the ledger alone.
 use Rattle.std.specs.Prelude.{ℕ, zero, suc, ◌+◌, List, length, drop, replicate, ltb, if◌then◌else◌}
 use Rattle.numbers.specs.Row.{Rows, ReadRow, RefusedAt}
 use Rattle.sheets.specs.Read.{read_road, padded}
 use Rattle.conditions.specs.Conditions.{segments}
 use Rattle.steps.specs.Step.{replaced, stored_of}
-use Rattle.letters.specs.Level.{letter_byte}
+use Rattle.levels.specs.Level.{letter_byte}
 use Rattle.facility.specs.Ledger.{Take, Run, Report, Answer, Refused, Taken, Ran, Reported, Summed, state_after, arrived_in, left_in, partsteps_in, driven_in, Book, opened, Rules, present, answer_by, after_by}
 
 -- a segment's line: n, q, the byte of the level letter, and the part-feet
@@ -44,8 +43,7 @@ line_of (Summed arrived left stored partsteps partfeet) = no_line
 unfoldable pub lines_by : (ℕ → Line) → ℕ → List Line
 lines_by line segments = replaced line segments (replicate 64 no_line)
 
--- "arrived, left, stored, part-steps, origin (o), then segment, n, q, letter"; each line "gains, after the letter, its part-feet", and "a last line
--- `partfeet` prints the facility's total"
+-- arrived, left, stored, part-steps, origin (o); then of each segment n, q, the letter and its part-feet; and the facility's part-feet
 unfoldable pub listed : Rules → Book → Listing
 listed rules b = record {
   refusal = 0;
@@ -60,7 +58,7 @@ listed rules b = record {
   partfeet = driven_in b.trail;
 }
 
--- "a refused study prints only refused, the number and the place in the file"
+-- a refused study: the number, and the place in the file
 unfoldable pub refused_listing : (number place : ℕ) → Listing
 refused_listing number place = record {
   refusal = number;
@@ -85,7 +83,7 @@ abbrev pub listing : Rules → Outcome → Listing
 listing rules (Ended b) = listed rules b
 listing rules (RefusedStudy number place) = refused_listing number place
 
--- a sheet that starts at a place of the file: taken, on from where it ended; refused, "the sheet's start plus the refusal's offset"
+-- a sheet that starts at a place of the file: taken, on from where it ended; refused, at the sheet's start plus the refusal's offset
 abbrev pub after_sheet : Answer → ℕ → (ℕ → Outcome) → Outcome
 after_sheet (Taken used) at on = on (at + used)
 after_sheet (Refused number offset) at on = RefusedStudy number (at + offset)
@@ -93,7 +91,7 @@ after_sheet Ran at on = on at
 after_sheet (Reported figures level tally partfeet) at on = on at
 after_sheet (Summed arrived left stored partsteps partfeet) at on = on at
 
--- "60 steps to a 15-minute period"
+-- 60 steps to a period of 15 minutes
 abbrev pub whole : ℕ
 whole = 60
 
@@ -101,7 +99,7 @@ whole = 60
 abbrev pub whole_period : Rules → Book → List ℕ → Book
 whole_period rules b sheet = after_by rules (after_by rules b (Take sheet)) (Run whole)
 
--- the period sheets from a place on, "to the end of the file". At most so many are looked at
+-- the period sheets from a place on, to the end of the file. At most so many are looked at
 unfoldable pub periods : Rules → ℕ → Book → List ℕ → ℕ → Outcome
 periods rules zero b bytes at = Ended b
 periods rules (suc most) b bytes at =
@@ -109,7 +107,7 @@ periods rules (suc most) b bytes at =
     after_sheet (answer_by rules b (Take (drop at bytes))) at (periods rules most (whole_period rules b (drop at bytes)) bytes)
     else Ended b
 
--- "the period part starts wherever the road part ended". The 97th sheet is always refused, by 13, so that no more are looked at
+-- the period part starts wherever the road part ended. The 97th sheet is always refused, by 13, so that no more are looked at
 abbrev pub on_road : Rules → List ℕ → Rows → Outcome
 on_road rules bytes (ReadRow row used) = periods rules 97 (opened (padded row)) bytes used
 on_road rules bytes (RefusedAt number offset) = RefusedStudy number offset

@@ -1,9 +1,9 @@
--- What a facility shows by its totals and its segment reports, as the listing has it, and what the code's answers say: no rule of document
--- 01, but what the inner functions of a forecast promise.
+-- What a facility shows by its totals and its segment reports, as the listing has it, and what the code's answers say: no rule of the manual,
+-- but what the inner functions of a forecast promise.
 use Rattle.std.specs.Prelude.{◌≡◌, ℕ, ◌+◌, ◌-◌, ◌≤◌, List, length, map, Option, Some, None, Result, Ok, Err}
 use Rattle.refusals.specs.declared.Refused.{Refused}
 use Rattle.refusals.specs.Numbers.{refusal_number}
-use Rattle.letters.specs.Level.{letter_byte}
+use Rattle.levels.specs.Level.{letter_byte}
 use Rattle.conditions.specs.Conditions.{segments}
 use Rattle.door.specs.declared.Facility.{Facility}
 use Rattle.facility.specs.Calls.{Reply, refused, done, report_of, totals_of}

@@ -1,18 +1,18 @@
 // A forecast as 265 numbers, in the order of the header, for programs in C and Rust.
 
-ghost use Rattle.std.specs.Prelude.{◌≡◌, ◌+◌, ◌≤◌, set};
-ghost use Rattle.study.specs.Export.{listing_numbers, export_answer, export_into};
+ghost use Rattle.std.specs.Prelude.{◌≡◌, Ok, Err};
+ghost use Rattle.study.specs.Export.{line_row, head_row, listing_numbers, export_answer, export_into};
 ghost use Rattle.study.specs.Shown.{line_shown, told};
 
 use crate::{Line, Listing, forecast};
 use refusals::{Refusal, Refused};
 
-// Puts n, q, the letter and the part-feet of a line from the place k on, and zeros where there is none.
-fn put_line(line: Option<Line>, numbers: &mut [u64; 265], k: usize)
-    requires { k + 4 ≤ 265 }
-    ensures { numbers.new ≡ set (set (set (set numbers.old k (line_shown line).n) (k + 1) (line_shown line).q) (k + 2) (line_shown line).letter) (k + 3) (line_shown line).partfeet }
+// n, q, the letter and the part-feet of a line, and zeros where there is none.
+#[tactic(auto, unfolding(crate::specs::Export::line_row))]
+fn line_row(line: Option<Line>) -> [u64; 4]
+    ensures { result ≡ line_row (line_shown line) }
 {
-    let [n, q, letter, partfeet] = match line {
+    match line {
         Some(line) => [
             u64::from(line.n),
             u64::from(line.q),
@@ -20,35 +20,41 @@ fn put_line(line: Option<Line>, numbers: &mut [u64; 265], k: usize)
             line.partfeet,
         ],
         None => [0; 4],
-    };
-    numbers[k] = n;
-    numbers[k + 1] = q;
-    numbers[k + 2] = letter;
-    numbers[k + 3] = partfeet;
+    }
+}
+
+// No refusal, NS, the totals, and o.
+fn head_row(x: &Listing) -> [u64; 9]
+    ensures { result ≡ head_row (told (Ok x.now)) }
+{
+    [
+        0,
+        0,
+        u64::from(x.segments),
+        x.totals.arrived,
+        x.totals.left,
+        x.totals.stored,
+        x.totals.partsteps,
+        x.totals.partfeet,
+        u64::from(x.origin),
+    ]
 }
 
 // Stays: the C interface is a row of 265 numbers, each at its place.
-// The numbers of a listing: no refusal, NS, the totals, o, and four for each line.
-#[tactic(auto, unfolding(crate::specs::Export::listing_numbers))]
+// The numbers of a listing: its head, and four for each line.
 fn shown_numbers(x: &Listing) -> [u64; 265]
     ensures { result ≡ listing_numbers (told (Ok x.now)) }
 {
     let mut numbers = [0; 265];
-    numbers[2] = u64::from(x.segments);
-    numbers[3] = x.totals.arrived;
-    numbers[4] = x.totals.left;
-    numbers[5] = x.totals.stored;
-    numbers[6] = x.totals.partsteps;
-    numbers[7] = x.totals.partfeet;
-    numbers[8] = u64::from(x.origin);
+    exports::put_row(&head_row(x), &mut numbers, 0);
     for (i, line) in x.lines.iter().enumerate() {
-        put_line(*line, &mut numbers, 9 + 4 * i);
+        exports::put_row(&line_row(*line), &mut numbers, 9 + 4 * i);
     }
     numbers
 }
 
 // The numbers of a refused study: the refusal's number and its place, and zeros.
-#[tactic(auto, unfolding(crate::specs::Forecast::refused_listing, crate::specs::Export::listing_numbers, crate::specs::Export::line_numbers))]
+#[tactic(auto, unfolding(crate::specs::Forecast::refused_listing, crate::specs::Export::listing_numbers, crate::specs::Export::line_row, exports::specs::Rows::joined))]
 fn refused_numbers(refused: Refused) -> [u64; 265]
     ensures { result ≡ listing_numbers (told (Err refused)) }
 {
@@ -77,6 +83,6 @@ pub fn freeway_forecast(study: &[u8], out: &mut [u64]) -> u64
         return u64::from(Refusal::NoRoom.number());
     }
     let numbers = numbers_of(&forecast(study));
-    out[..265].copy_from_slice(&numbers);
+    exports::put_row(&numbers, out, 0);
     numbers[0]
 }

@@ -58,7 +58,7 @@ fn show(f: &Facility) -> Listing
 }
 
 // Takes the period sheet that starts at a place of the bytes, and answers where it ends; a refusal's place is one of the bytes too.
-fn take_at(f: &mut Facility, bytes: &[u8], at: usize) -> Result<usize, Refused>
+pub fn take_at(f: &mut Facility, bytes: &[u8], at: usize) -> Result<usize, Refused>
     requires { at ≤ length bytes.now }
     ensures { TakenAt bytes.now at result f.new (take_of f.old (drop at bytes.now)) }
 {

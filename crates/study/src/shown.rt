@@ -3,7 +3,7 @@
 ghost use Rattle.std.specs.Prelude.{◌≡◌, length};
 
 use facility::Sums;
-use letters::Level;
+use levels::Level;
 
 // A segment's line of the listing.
 #[derive(Clone, Copy, Debug, PartialEq, Eq)]

@@ -1,4 +1,4 @@
--- Text for people (no rule of document 01), a line at a time: words with white space between them, and decimal numbers. A comment goes
+-- Text for people (no rule of the manual), a line at a time: words with white space between them, and decimal numbers. A comment goes
 -- from a `#` to the end of its line.
 use Rattle.std.specs.Prelude.{ℕ, ◌≡◌, ◌+◌, ◌-◌, ◌*◌, ◌<◌, min, Bool, true, false, not, ◌&&◌, ◌||◌, List, [], ◌∷◌, length, drop, take, leb, eqb, if◌then◌else◌}
 use Rattle.std.specs.Prelude.{Option, Some, None}

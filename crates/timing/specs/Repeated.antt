@@ -1,8 +1,8 @@
--- Calls made over and over, for the benchmark (no rule of document 01): what the timed functions come to.
+-- Calls made over and over, for the benchmark (no rule of the manual): what the timed functions come to.
 use Rattle.std.specs.Prelude.{ℕ, zero, suc, ◌+◌, ◌%◌, List, slice_index}
 use Rattle.steps.specs.Step.{sum_to}
-use Rattle.letters.specs.declared.Level.{Level}
-use Rattle.letters.specs.Level.{letter_byte, level_of}
+use Rattle.levels.specs.declared.Level.{Level}
+use Rattle.levels.specs.Level.{letter_byte, level_of}
 use Rattle.door.specs.declared.Facility.{Facility}
 use Rattle.facility.specs.Calls.{lay_of, take_of, run_of, report_of}
 use Rattle.timing.specs.declared.walks.Segments.{Segments}

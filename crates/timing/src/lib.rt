@@ -10,7 +10,7 @@ pub mod walks;
 
 use door::Facility;
 use facility::SegmentReport;
-use letters::Level;
+use levels::Level;
 use refusals::Refusal;
 use walks::sum_of_letters;
 

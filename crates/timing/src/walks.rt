@@ -3,10 +3,10 @@
 
 ghost use Rattle.std.specs.Prelude.{◌≡◌, ◌*◌, ◌%◌, ◌<◌, ◌≤◌, ℕ};
 ghost use Rattle.steps.specs.Step.{sum_to};
-ghost use Rattle.letters.specs.Level.{letter_byte, level_of, holds_at_most};
+ghost use Rattle.levels.specs.Level.{letter_byte, level_of, holds_at_most};
 ghost use Rattle.timing.specs.Repeated.{level_in};
 
-use letters::Level;
+use levels::Level;
 
 // What the letters of 64 segments reckon with.
 #[repr(C)]
@@ -30,12 +30,12 @@ pub fn sum_of_letters<F: Fn(u32) -> Level>(level: F, times: u32) -> u64
 }
 
 // The level letter by the walk of before: each product stops at the largest number of 64 bits.
-#[tactic(auto, unfolding(letters::specs::Level::holds_at_most))]
+#[tactic(auto, unfolding(levels::specs::Level::holds_at_most))]
 fn level_before(n: u32, length: u32, lanes: u32) -> Level
     ensures { result ≡ level_of n length lanes }
 {
     let area = u64::from(length) * u64::from(lanes);
-    letters::graded(
+    levels::graded(
         |limit: u8| -> bool
             ensures { result ≡ holds_at_most limit n area }
         { 22 * u64::from(n) <= u64::from(limit).saturating_mul(area) },
@@ -52,7 +52,7 @@ pub extern "C" fn freeway_time_letters(segments: &Segments, times: u32) -> u64
             ensures { result ≡ level_in segments.entry.now (i % 64) }
         {
             let k = i as usize % 64;
-            letters::level_of(segments.n[k], segments.length[k], segments.lanes[k])
+            levels::level_of(segments.n[k], segments.length[k], segments.lanes[k])
         },
         times,
     )

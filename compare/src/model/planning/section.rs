@@ -70,7 +70,7 @@ impl Curve {
         ((self.a * w + self.b) * w + self.c) * w + self.d
     }
 
-    /// The rate RU, zero where the printed curve is below.
+    /// The rate RU, zero where the printed curve is below.
     fn rate(&self, p: f64) -> f64 {
         if p < self.start {
             return 0.0;

@@ -1,5 +1,5 @@
 -- What the closure told of a limit.
-use Rattle.letters.specs.Level.{level_of, level_by}
+use Rattle.levels.specs.Level.{level_of, level_by}
 use Rattle.timing.proofs.walks.level_before.Goals as goal
 
 pub returns : goal.returns

@@ -1,6 +1,6 @@
 -- The letters in turn: the sum so far is of those told.
 use Rattle.std.proofs.Common.{refl, ◌∙◌, ap, arith}
-use Rattle.letters.specs.Level.{letter_byte}
+use Rattle.levels.specs.Level.{letter_byte}
 use Rattle.steps.specs.Step.{sum_to}
 use Rattle.steps.proofs.Sums.{sum_more}
 use Rattle.timing.proofs.walks.sum_of_letters.Goals as goal

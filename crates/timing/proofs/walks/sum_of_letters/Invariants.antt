@@ -1,7 +1,7 @@
 -- The letters in turn: the sum so far is of those told.
 use Rattle.std.proofs.Common.{◌≡◌, ◌*◌, ◌<◌, ◌≤◌, ℕ}
-use Rattle.letters.specs.declared.Level.{Level}
-use Rattle.letters.specs.Level.{letter_byte}
+use Rattle.levels.specs.declared.Level.{Level}
+use Rattle.levels.specs.Level.{letter_byte}
 use Rattle.steps.specs.Step.{sum_to}
 use Rattle.timing.proofs.walks.sum_of_letters.Given as goal
 
