@@ -8,7 +8,7 @@ use Rattle.door.specs.declared.Facility.{Facility}
 use Rattle.door.specs.Sound.{sound}
 use Rattle.door.proofs.Sound.{few_segments}
 use Rattle.running.specs.Steps.{sheet_by, conditions_on}
-use Rattle.facility.specs.Calls.{ReportReply, reported_by, report_of, level_at}
+use Rattle.facility.specs.Calls.{done, take_of, run_of, ReportReply, reported_by, report_of, level_at}
 use Rattle.facility.specs.Ledger.{Trail, Book, present, conditions_by, state_after, more_steps}
 use Rattle.facility.specs.Verdicts.{GoesOn}
 use Rattle.facility.proofs.Verdicts.{report_goes}
@@ -18,7 +18,8 @@ use Rattle.facility.proofs.Trail.{KeptBook}
 use Rattle.facility.specs.View.{view}
 use Rattle.study.specs.Forecast.{whole, outcome_by}
 use Rattle.parts.specs.Parts.{road_globals}
-use Rattle.study.proofs.Periods.{turn_sound, Turn, Start, Later, refused_by, ends}
+use Rattle.study.specs.Shown.{TakenAt}
+use Rattle.study.proofs.Periods.{turns_on, turn_sound, Turn, Start, Later, refused_by, ends}
 use Rattle.overview.specs.declared.marks.Mark.{Mark}
 use Rattle.overview.specs.Course.{no_mark, row_by, mark_of, row_in, rows_in, course, course_of}
 use Rattle.overview.specs.View.{told, mark_at}
@@ -83,7 +84,12 @@ rows_one_more : (p : ℕ) (t : Trail) → rows_in (suc p) t ≡ set (rows_in p (
 unfolding rows_in
 rows_one_more p t = refl
 
-module _ (bytes : List ℕ) (f next : Facility) (at end : ℕ) (rows : List (List Mark)) (s : Seen bytes f at rows) (l : Later bytes s.turn.book next end) where
+-- a sheet at the place, taken, and its period run whole
+module _ (bytes : List ℕ) (f : Facility) (at : ℕ) (rows : List (List Mark)) (s : Seen bytes f at rows) (inside : at < length bytes)
+    (end : ℕ) (g : Facility) (taken-at : TakenAt bytes at (Ok end) g (take_of f (drop at bytes))) (next : Facility) (ran : done 0 next ≡ run_of g whole) where
+  abbrev l : Later bytes s.turn.book next end
+  l = turns_on bytes f at s.turn inside end g taken-at next ran
+
   abbrev before : Book
   before = s.turn.book
 

@@ -1,4 +1,5 @@
--- What the code's course says, and what a facility tells of its segments at a period's end, which the inner functions promise: no rule of the manual.
+-- What the code's course says, and what a facility tells of its segments at a period's end: no rule of the manual, but what the inner functions
+-- promise.
 use Rattle.std.specs.Prelude.{ℕ, ◌+◌, Result, Ok, Err}
 use Rattle.refusals.specs.declared.Refused.{Refused}
 use Rattle.refusals.specs.Numbers.{refusal_number}

@@ -1,4 +1,5 @@
--- Lists of a function's values, one after the other, for the planning sheet (manual 11): no rule of its own. Section answers, demands and the new carryover each go by the section's place.
+-- Lists of a function's values, one after the other, for the planning sheet (manual 11): no rule of its own. Section answers, demands and the
+-- new carryover each go by the section's place.
 use Rattle.std.specs.Prelude.{ℕ, ◌-◌, List, ◌++◌, map, replicate}
 use Rattle.std.specs.List.{range_with_len}
 

@@ -1,6 +1,6 @@
 -- The road, and then sheet by sheet to the end of the file, a row for each.
 use Rattle.std.proofs.Common.{rules, arith}
-use Rattle.study.proofs.Periods.{begins_at, not_laid, refuses_at, turns_on, runs_whole}
+use Rattle.study.proofs.Periods.{begins_at, not_laid, refuses_at, runs_whole}
 use Rattle.overview.proofs.Rows.{no_rows, row_more, one_taken, few_on_road, refused_is, told_at_the_end}
 use Rattle.overview.proofs.course_of.Goals as goal
 
@@ -17,17 +17,13 @@ returns-in_err-at-2 c =
 
 pub loop-at-smaller : goal.loop-at-smaller
 loop-at-smaller c =
-    let later =
-    turns_on c.args.bytes.now c.loop-at.f c.loop-at.at c.loop-at.invariant.turn c.loop-at-test.true c.in_ok-at-2.at c.take_at.new.f c.in_ok-at-2.ensures c.run.new.f c.in_ok-run.ensures in
-    let taken = one_taken c.args.bytes.now c.loop-at.f c.run.new.f c.loop-at.at c.in_ok-at-2.at c.loop-at.rows c.loop-at.invariant later in
+    let taken = one_taken c.args.bytes.now c.loop-at.f c.loop-at.at c.loop-at.rows c.loop-at.invariant c.loop-at-test.true c.in_ok-at-2.at c.take_at.new.f c.in_ok-at-2.ensures c.run.new.f c.in_ok-run.ensures in
     omega (arith, taken.0, taken.1)
 
 pub loop-at-preserved : goal.loop-at-preserved
 loop-at-preserved c =
-    let later =
-    turns_on c.args.bytes.now c.loop-at.f c.loop-at.at c.loop-at.invariant.turn c.loop-at-test.true c.in_ok-at-2.at c.take_at.new.f c.in_ok-at-2.ensures c.run.new.f c.in_ok-run.ensures in
-    let taken = one_taken c.args.bytes.now c.loop-at.f c.run.new.f c.loop-at.at c.in_ok-at-2.at c.loop-at.rows c.loop-at.invariant later in
-    row_more c.args.bytes.now c.loop-at.f c.run.new.f c.loop-at.at c.in_ok-at-2.at c.loop-at.rows c.loop-at.invariant later c.row_of.result _ c.row_of.ensures (omega (arith, taken.0))
+    let taken = one_taken c.args.bytes.now c.loop-at.f c.loop-at.at c.loop-at.rows c.loop-at.invariant c.loop-at-test.true c.in_ok-at-2.at c.take_at.new.f c.in_ok-at-2.ensures c.run.new.f c.in_ok-run.ensures in
+    row_more c.args.bytes.now c.loop-at.f c.loop-at.at c.loop-at.rows c.loop-at.invariant c.loop-at-test.true c.in_ok-at-2.at c.take_at.new.f c.in_ok-at-2.ensures c.run.new.f c.in_ok-run.ensures c.row_of.result _ c.row_of.ensures (omega (arith, taken.0))
 
 pub returns-in_err-run : goal.returns-in_err-run
 returns-in_err-run c =
@@ -35,22 +31,16 @@ returns-in_err-run c =
 
 pub row_of-requires : goal.row_of-requires
 row_of-requires c =
-    let later =
-    turns_on c.args.bytes.now c.loop-at.f c.loop-at.at c.loop-at.invariant.turn c.loop-at-test.true c.in_ok-at-2.at c.take_at.new.f c.in_ok-at-2.ensures c.run.new.f c.in_ok-run.ensures in
-    few_on_road c.args.bytes.now c.loop-at.f c.run.new.f c.loop-at.at c.in_ok-at-2.at c.loop-at.rows c.loop-at.invariant later
+    few_on_road c.args.bytes.now c.loop-at.f c.loop-at.at c.loop-at.rows c.loop-at.invariant c.loop-at-test.true c.in_ok-at-2.at c.take_at.new.f c.in_ok-at-2.ensures c.run.new.f c.in_ok-run.ensures
 
 pub overflow_sub-rows : goal.overflow_sub-rows
 overflow_sub-rows c =
-    let later =
-    turns_on c.args.bytes.now c.loop-at.f c.loop-at.at c.loop-at.invariant.turn c.loop-at-test.true c.in_ok-at-2.at c.take_at.new.f c.in_ok-at-2.ensures c.run.new.f c.in_ok-run.ensures in
-    let taken = one_taken c.args.bytes.now c.loop-at.f c.run.new.f c.loop-at.at c.in_ok-at-2.at c.loop-at.rows c.loop-at.invariant later in
+    let taken = one_taken c.args.bytes.now c.loop-at.f c.loop-at.at c.loop-at.rows c.loop-at.invariant c.loop-at-test.true c.in_ok-at-2.at c.take_at.new.f c.in_ok-at-2.ensures c.run.new.f c.in_ok-run.ensures in
     omega (arith, taken.0, taken.1)
 
 pub bounds-rows-f : goal.bounds-rows-f
 bounds-rows-f c =
-    let later =
-    turns_on c.args.bytes.now c.loop-at.f c.loop-at.at c.loop-at.invariant.turn c.loop-at-test.true c.in_ok-at-2.at c.take_at.new.f c.in_ok-at-2.ensures c.run.new.f c.in_ok-run.ensures in
-    let taken = one_taken c.args.bytes.now c.loop-at.f c.run.new.f c.loop-at.at c.in_ok-at-2.at c.loop-at.rows c.loop-at.invariant later in
+    let taken = one_taken c.args.bytes.now c.loop-at.f c.loop-at.at c.loop-at.rows c.loop-at.invariant c.loop-at-test.true c.in_ok-at-2.at c.take_at.new.f c.in_ok-at-2.ensures c.run.new.f c.in_ok-run.ensures in
     omega (arith, taken.0, taken.1)
 
 pub returns : goal.returns
