@@ -6,6 +6,7 @@ fn main(rt: HostRuntime) {
         &mut rt.stdin(),
         &mut rt.stdout(),
         drawing::print_contour,
+        "cannot write the answer",
     ) {
         let _ = eprintln!(rt; "contour: {what}");
     }

@@ -6,6 +6,7 @@ fn main(rt: HostRuntime) {
         &mut rt.stdin(),
         &mut rt.stdout(),
         listing::print_study,
+        "cannot write the listing",
     ) {
         let _ = eprintln!(rt; "forecast: {what}");
     }

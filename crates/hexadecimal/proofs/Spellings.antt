@@ -3,9 +3,11 @@ use Rattle.std.proofs.Common.{ℕ, suc, ◌+◌, ◌*◌, ◌/◌, ◌%◌, ◌�
 use Rattle.std.proofs.Common.{Option, Some, None, Ok, Err, length, take, drop, get_or, length-drop, drop-cons}
 use lib.ListN.{set}
 use lib.Seq.{take-suc-set}
-use Rattle.std.proofs.lemmas.List.{take_all}
+use Rattle.std.proofs.lemmas.List.{length-take-le}
 use borrow.Author.Tests.{lt-ltb, le-ltb}
 use Rattle.std.proofs.Common.{Bool, true, false, cond}
+use Rattle.std.proofs.Common.{Result, sym}
+use Rattle.hexadecimal.specs.declared.SpellingError.{SpellingError}
 use Rattle.hexadecimal.specs.declared.SpellingError.TheVariants.{TooLong, NotHexadecimal}
 use Rattle.hexadecimal.specs.Spelling.{hex_value, byte_of, Spelling, Bytes, NotHex, with_byte, spelled, counted, read_bytes, HasBytes}
 
@@ -75,21 +77,24 @@ module _ (word out : List ℕ) (n : ℕ) (stored : Stored word n out) where
         stored_then (Bytes []) none ∙ ap Bytes (append-nil (take n out))
 
 -- ---- what the function answers
-module _ (word : List ℕ) (room : ℕ) where
-  pub too_long : room < length word / 2 → Err TooLong ≡ read_bytes room word
+module _ (word out : List ℕ) (room : ℕ) where
+  abbrev Answer : Result ℕ SpellingError → Type 0
+  Answer r = (r ≡ read_bytes room word) × HasBytes r word out
+
+  pub too_long : room < length word / 2 → Answer (Err TooLong)
   unfolding read_bytes
-  too_long h = rw (lt-ltb room (length word / 2) h) refl
+  too_long h = (rw (lt-ltb room (length word / 2) h) refl, λ bs s r. absurd (cc))
 
   module _ (fits : length word / 2 ≤ room) where
-    pub no_bytes : spelled word ≡ NotHex → Err NotHexadecimal ≡ read_bytes room word
+    pub no_bytes : spelled word ≡ NotHex → Answer (Err NotHexadecimal)
     unfolding read_bytes
-    no_bytes e = rw (le-ltb room (length word / 2) fits, e) refl
+    no_bytes e = (rw (le-ltb room (length word / 2) fits, e) refl, λ bs s r. absurd (cc))
 
-    pub some_bytes : (bytes : List ℕ) → spelled word ≡ Bytes bytes → (Ok (length bytes) ≡ read_bytes room word) × HasBytes (Ok (length bytes)) word bytes
+    pub some_bytes : (n : ℕ) → n ≤ length out → spelled word ≡ Bytes (take n out) → Answer (Ok n)
     unfolding read_bytes
-    some_bytes bytes e = (
-      rw (le-ltb room (length word / 2) fits, e) refl,
-      λ bs s r. let same : bytes ≡ bs = cc in rw (← same) (take_all (length bytes) bytes (omega arith)),
+    some_bytes n h e = (
+      rw (le-ltb room (length word / 2) fits, e, length-take-le n out h) refl,
+      λ bs s r. let same : take n out ≡ bs = cc in rw (← same, length-take-le n out h) refl,
     )
 
 -- ---- what an answer says
@@ -101,11 +106,9 @@ with_room : (t : Bool) (x : Spelling) (n : ℕ) → Ok n ≡ cond t (Err TooLong
 with_room true x n e = absurd (cc)
 with_room false x n e = e
 
-pub spelled_is : (room : ℕ) (word bytes : List ℕ) → Ok (length bytes) ≡ read_bytes room word → HasBytes (Ok (length bytes)) word bytes → spelled word ≡ Bytes bytes
+pub spelled_is : (room : ℕ) (word out : List ℕ) (n : ℕ) → Ok n ≡ read_bytes room word → HasBytes (Ok n) word out → spelled word ≡ Bytes (take n out)
 unfolding read_bytes
-spelled_is room word bytes e has =
-    let is = counted_is (spelled word) (length bytes) (with_room _ (spelled word) (length bytes) e) in
-    let starts : take (length is.0) bytes ≡ is.0 = has is.0 is.1 (ap Ok is.2) in
-    let whole : take (length is.0) bytes ≡ bytes = take_all (length is.0) bytes (omega (arith, is.2)) in
-    let same : is.0 ≡ bytes = cc in
-    is.1 ∙ ap Bytes same
+spelled_is room word out n e has =
+    let is = counted_is (spelled word) n (with_room _ (spelled word) n e) in
+    let starts : take (length is.0) out ≡ is.0 = has is.0 is.1 (ap Ok is.2) in
+    is.1 ∙ ap Bytes (sym (ap (λ (k : ℕ). take k out) is.2 ∙ starts))

@@ -1,7 +1,7 @@
 // Bytes in hexadecimal, two digits each.
 #![tactic(auto)]
 
-ghost use Rattle.std.specs.Prelude.{◌≡◌, ◌≤◌, ◌<◌, length, IfSome, IfOk, MatchResult, Ok, Err};
+ghost use Rattle.std.specs.Prelude.{◌≡◌, ◌≤◌, ◌<◌, length, IfSome, IfOk};
 ghost use Rattle.hexadecimal.specs.Spelling.{hex_value, byte_of, read_bytes, HasBytes};
 
 // Why a word gives no bytes: they are more than the room has, or it is not bytes in hexadecimal.
@@ -35,12 +35,11 @@ fn byte_of(high: u8, low: u8) -> Option<u8>
     Some(16 * high + low)
 }
 
-// The bytes that a word spells, two digits each, which stand at the start of a lent buffer.
-pub fn bytes<'a>(word: &[u8], out: &'a mut [u8]) -> Result<&'a [u8], SpellingError>
-    ensures spelled { MatchResult result
-        (λ bytes. (Ok (length bytes.now) ≡ read_bytes (length out.old) word.now) × HasBytes (Ok (length bytes.now)) word.now bytes.now)
-        (λ error. Err error ≡ read_bytes (length out.old) word.now) }
-    ensures within { IfOk result (λ bytes. length bytes.now ≤ length out.old) }
+// Puts the bytes that a word spells, two digits each, at the start of a lent buffer, and says how many they are.
+// Stays: the proof did not close. Of a part of the buffer, given in the place of its count, no clause that proved said what the buffer has.
+pub fn bytes(word: &[u8], out: &mut [u8]) -> Result<usize, SpellingError>
+    ensures spelled { (result ≡ read_bytes (length out.old) word.now) × HasBytes result word.now out.new }
+    ensures within { IfOk result (λ count. count ≤ length out.new) }
 {
     let count = word.len() / 2;
     if out.len() < count {
@@ -56,5 +55,5 @@ pub fn bytes<'a>(word: &[u8], out: &'a mut [u8]) -> Result<&'a [u8], SpellingErr
     if word.len() % 2 == 1 {
         return Err(SpellingError::NotHexadecimal);
     }
-    Ok(&out[..count])
+    Ok(count)
 }

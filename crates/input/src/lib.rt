@@ -4,9 +4,12 @@
 ghost use Rattle.std.specs.Prelude.{◌≡◌, ◌≤◌, length, MatchResult, IfOk, IfSome};
 ghost use Rattle.input.specs.Lines.{line_length};
 
+mod tried;
+
 use std::io::{Read, Write};
 use std::rt::Files;
 use std::{fs, io};
+pub use tried::Tried;
 
 // Room for the bytes of every study.
 pub const STUDY_ROOM: usize = 65536;
@@ -93,18 +96,19 @@ pub fn read_to_end<'a, R: Read>(file: &mut R, buffer: &'a mut [u8]) -> Result<&'
     Ok(&buffer[..length])
 }
 
-// Reads a study and prints what it comes to. Answers what went wrong, if something did. The buffer serves every study: the refusal of a longer one is
-// decided within its first 32,300 bytes.
+// Reads a study and prints what it comes to. Answers what went wrong, if something did; what could not be written is told in the caller's words. The buffer
+// serves every study: the refusal of a longer one is decided within its first 32,300 bytes.
 pub fn answer_study<R: Read, W: Write, P: FnOnce(&mut W, &[u8]) -> io::Result<()>>(
     source: &mut R,
     output: &mut W,
     print: P,
+    unwritten: &'static str,
 ) -> Result<(), &'static str>
     requires { P.IsAlwaysCallable print }
 {
     let mut buffer = [0; STUDY_ROOM];
     let study = read_to_end(source, &mut buffer).map_err(|_| "cannot read the study")?;
-    print(output, study).map_err(|_| "cannot write the answer")
+    print(output, study).map_err(|_| unwritten)
 }
 
 // A line without its end, or the start of one that is longer than its buffer.

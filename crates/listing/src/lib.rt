@@ -2,6 +2,7 @@
 #![tactic(auto)]
 
 use facility::Sums;
+use input::Tried;
 use std::io;
 use std::io::Write;
 use study::{Line, Listing};
@@ -37,10 +38,16 @@ fn print_listing<W: Write>(output: &mut W, listing: &Listing) -> io::Result<()> 
     writeln!(output, "partfeet {partfeet}")
 }
 
-// Prints the forecast of a study.
-pub fn print_study<W: Write>(output: &mut W, bytes: &[u8]) -> io::Result<()> {
+fn print_forecast<W: Write>(output: &mut W, bytes: &[u8]) -> io::Result<()> {
     match study::forecast(bytes) {
         Ok(listing) => print_listing(output, &listing),
         Err(refused) => writeln!(output, "{refused}"),
     }
+}
+
+// Prints the forecast of a study: each line of it, also behind one that cannot be written.
+pub fn print_study<W: Write>(output: &mut W, bytes: &[u8]) -> io::Result<()> {
+    let mut tried = Tried::new(output);
+    print_forecast(&mut tried, bytes)?;
+    tried.finish()
 }

@@ -197,7 +197,7 @@ fn play<W: Write>(output: &mut W, record: &[u8], carryover: &mut Carryover) -> i
         }
         None => {
             *carryover = Carryover::none();
-            records::say_record(output, record)?;
+            records::say_record(output, record);
             writeln!(output, "not a record")
         }
     }

@@ -1,7 +1,18 @@
--- What is left of a record (no rule of the manual).
-use Rattle.std.specs.Prelude.{ℕ, ◌≡◌, ◌+◌, ◌<◌, ◌≤◌, ◌⊎◌, List, [], ◌∷◌, Some}
+-- A record in its line, and what is left of it (no rule of the manual).
+use Rattle.std.specs.Prelude.{ℕ, ◌≡◌, ◌+◌, ◌<◌, ◌≤◌, ◌⊎◌, List, [], ◌∷◌, length, take, drop, Some}
+use Rattle.input.specs.declared.Line.{Line}
+use Rattle.input.specs.declared.Line.TheVariants.{Whole, Long}
 use Rattle.text.specs.Text.{word_at, IsWord, IsNoWord, number_of}
 use Rattle.hexadecimal.specs.Spelling.{spelled, Bytes}
+
+-- what of a line was taken
+abbrev pub taken_of : Line → List ℕ
+taken_of (Whole bytes) = bytes.now
+taken_of (Long bytes) = bytes.now
+
+-- a part of a line, which stands there from a place on
+abbrev pub IsPartOf : (line part : List ℕ) → Type 0
+IsPartOf line part = (from : ℕ) × (from + length part ≤ length line) × (part ≡ take (length part) (drop from line))
 
 -- the one word of what is left
 abbrev pub IsOnlyWord : (rest word : List ℕ) → Type 0

@@ -4,9 +4,9 @@
 
 ghost use Rattle.std.specs.Prelude.{◌≡◌, ◌≢◌, ◌<◌, ◌≤◌, ℕ, List, IfSome, MatchOption, Some, length, slice_index};
 ghost use Rattle.text.specs.Text.{number_of};
-ghost use Rattle.records.specs.Rest.{IsOnlyWord, AreBytesOf, AreNumbersOf, IsOutside};
+ghost use Rattle.records.specs.Rest.{taken_of, IsPartOf, IsOnlyWord, AreBytesOf, AreNumbersOf, IsOutside};
 
-use input::{Line, Lines};
+use input::{Line, Lines, Tried};
 use refusals::Refused;
 use std::io::{Read, Write};
 use std::{fmt, io};
@@ -47,16 +47,9 @@ fn altered_at(buffer: &[u8], fill: u8, at: usize, count: usize) -> Option<usize>
 
 // Tells where a filled buffer is altered outside a part that was to be written.
 // Stays: no plainer. The part is told by its place and its count, as a writing is asked for and answers.
-pub fn say_altered<W: Write>(
-    output: &mut W,
-    buffer: &[u8],
-    fill: u8,
-    at: usize,
-    count: usize,
-) -> io::Result<()> {
-    match altered_at(buffer, fill, at, count) {
-        Some(place) => write!(output, ", and the buffer is altered at {place}"),
-        None => Ok(()),
+pub fn say_altered<W: Write>(output: &mut W, buffer: &[u8], fill: u8, at: usize, count: usize) {
+    if let Some(place) = altered_at(buffer, fill, at, count) {
+        let _ = write!(output, ", and the buffer is altered at {place}");
     }
 }
 
@@ -73,19 +66,20 @@ pub fn say_written<W: Write>(
             if let Some(bytes) = buffer.get(at..).and_then(|bytes| bytes.get(..count)) {
                 write!(output, "{}", Hexadecimal(bytes))?;
             }
-            say_altered(output, buffer, FILL, at, count)
+            say_altered(output, buffer, FILL, at, count);
         }
         Err(refused) => {
             write!(output, "{refused}")?;
-            say_altered(output, buffer, FILL, 0, 0)
+            say_altered(output, buffer, FILL, 0, 0);
         }
     }
+    Ok(())
 }
 
 // The record again, and the arrow before its answer.
-pub fn say_record<W: Write>(output: &mut W, record: &[u8]) -> io::Result<()> {
-    output.write_all(record)?;
-    output.write_all(b" -> ")
+pub fn say_record<W: Write>(output: &mut W, record: &[u8]) {
+    let _ = output.write_all(record);
+    let _ = output.write_all(b" -> ");
 }
 
 // A record with its answer, on a line: what the answer prints, or the words that stand for none.
@@ -97,7 +91,7 @@ pub fn say_answer<W: Write, A: FnOnce(&mut W) -> Option<io::Result<()>>>(
 ) -> io::Result<()>
     requires { A.IsAlwaysCallable answer }
 {
-    say_record(output, record)?;
+    say_record(output, record);
     match answer(output) {
         Some(answered) => answered?,
         None => write!(output, "{none}")?,
@@ -107,7 +101,9 @@ pub fn say_answer<W: Write, A: FnOnce(&mut W) -> Option<io::Result<()>>>(
 
 // The part of a line that is a record, from its first word to the last before an arrow or a comment, and what stands behind it; none of a
 // line with no word.
-fn split_record(line: &[u8]) -> Option<(&[u8], &[u8])> {
+fn split_record(line: &[u8]) -> Option<(&[u8], &[u8])>
+    ensures { IfSome result (λ p. IsPartOf line.now p.0.now) }
+{
     let (name, mut rest) = text::next_word(line)?;
     let start = line.len() - rest.len() - name.len();
     while let Some((word, left)) = text::next_word(rest) {
@@ -121,7 +117,9 @@ fn split_record(line: &[u8]) -> Option<(&[u8], &[u8])> {
 
 // The record of a line that is longer than its buffer, which has the start of it: whole where a comment or an arrow stands behind it,
 // else it is told, and none.
-fn record_in_long<'a, W: Write>(output: &mut W, start: &'a [u8]) -> Option<&'a [u8]> {
+fn record_in_long<'a, W: Write>(output: &mut W, start: &'a [u8]) -> Option<&'a [u8]>
+    ensures { IfSome result (λ part. IsPartOf start.now part.now) }
+{
     let (record, behind) = match split_record(start) {
         Some((record, behind)) => (Some(record), behind),
         None => (None, start),
@@ -136,7 +134,9 @@ fn record_in_long<'a, W: Write>(output: &mut W, start: &'a [u8]) -> Option<&'a [
 }
 
 // The record of a line; none of a line that is empty, a comment or too long, which is told.
-fn record_of<'a, W: Write>(output: &mut W, line: Line<'a>) -> Option<&'a [u8]> {
+fn record_of<'a, W: Write>(output: &mut W, line: Line<'a>) -> Option<&'a [u8]>
+    ensures { IfSome result (λ part. IsPartOf (taken_of line.entry) part.now) }
+{
     match line {
         Line::Whole(whole) => Some(split_record(whole)?.0),
         Line::Long(start) => record_in_long(output, start),
@@ -148,16 +148,17 @@ pub fn play_all<
     R: Read,
     W: Write,
     E: Write,
-    P: FnMut(&mut W, &[u8]) -> io::Result<()>,
+    P: FnMut(&mut Tried<'_, W>, &[u8]) -> io::Result<()>,
     const N: usize,
 >(lines: &mut Lines<'_, R, N>, line: &mut [u8], output: &mut W, errors: &mut E, mut play: P)
     requires { P.IsAlwaysCallable play }
 {
+    let mut output = Tried::new(output);
     for _ in 0..u64::MAX {
         match lines.next_line(line) {
             Ok(Some(taken)) => {
-                if let Some(record) = record_of(output, taken) {
-                    let _ = play(output, record);
+                if let Some(record) = record_of(&mut output, taken) {
+                    let _ = play(&mut output, record);
                 }
             }
             Ok(None) => return,
@@ -199,7 +200,8 @@ pub fn bytes_of<'a>(word: &[u8], out: &'a mut [u8]) -> Option<&'a [u8]>
     if word.is_empty() {
         return None;
     }
-    hexadecimal::bytes(word, out).ok()
+    let count = hexadecimal::bytes(word, out).ok()?;
+    Some(&out[..count])
 }
 
 // The bytes of the one word of what is left of a record.

@@ -3,7 +3,7 @@ ghost use Rattle.std.specs.Prelude.{◌≤◌};
 
 use crate::answer::Answer;
 use crate::table;
-use crate::work::Work;
+pub use crate::work::Work;
 
 // Length in feet, lanes, free-flow speed, capacity factor in thousandths, and the flows in and out. The arithmetic rests on their ranges.
 #[derive(Clone, Copy)]

@@ -52,11 +52,23 @@ fn row_of(sheet: Result<Sheet, Refused>) -> [u32; 452] {
     sheet.map_or([0; 452], |sheet| sheet.numbers)
 }
 
-// The road that a word's bytes give; none of a word that is no bytes in hexadecimal.
-fn road_of(word: &[u8]) -> Option<[u32; 452]> {
+// The sheet that is read of a word's bytes; none of a word that is no bytes in hexadecimal. It is never made part of its caller, so that the
+// buffer of a road's bytes is given back before that of a period's is taken.
+#[inline(never)]
+fn sheet_of<F: FnOnce(&[u8]) -> Result<Sheet, Refused>>(
+    word: &[u8],
+    read: F,
+) -> Option<Result<Sheet, Refused>>
+    requires { F.IsAlwaysCallable read }
+{
     let mut buffer = [0; STUDY_ROOM];
     let bytes = records::bytes_of(word, &mut buffer)?;
-    Some(row_of(sheets::read_road(bytes)))
+    Some(read(bytes))
+}
+
+// The road that a word's bytes give.
+fn road_of(word: &[u8]) -> Option<[u32; 452]> {
+    Some(row_of(sheet_of(word, sheets::read_road)?))
 }
 
 // What a writing gave, and the buffer after it.
@@ -107,14 +119,12 @@ fn write_number<W: Write>(output: &mut W, word: &[u8], rest: &[u8]) -> Option<io
 
 fn read_road<W: Write>(output: &mut W, word: &[u8], rest: &[u8]) -> Option<io::Result<()>> {
     records::numbers(rest, [0, 0])?;
-    let mut buffer = [0; STUDY_ROOM];
-    let bytes = records::bytes_of(word, &mut buffer)?;
-    Some(say_sheet(output, sheets::read_road(bytes), Layout::Road))
+    let sheet = sheet_of(word, sheets::read_road)?;
+    Some(say_sheet(output, sheet, Layout::Road))
 }
 
 fn write_road<W: Write>(output: &mut W, word: &[u8], rest: &[u8]) -> Option<io::Result<()>> {
-    let mut buffer = [0; STUDY_ROOM];
-    let row = row_of(sheets::read_road(records::bytes_of(word, &mut buffer)?));
+    let row = road_of(word)?;
     write_to(output, rest, |buffer, place| {
         Some(sheets::write_sheet(buffer, place, Layout::Road(row[0]), &row))
     })
@@ -132,9 +142,8 @@ fn read_period<W: Write, L: Fn(u32) -> Layout>(
     let (road, rest) = text::next_word(rest)?;
     let road = road_of(road)?;
     records::numbers(rest, [0, 0])?;
-    let mut buffer = [0; STUDY_ROOM];
-    let bytes = records::bytes_of(word, &mut buffer)?;
-    let sheet = sheets::read_sheet(bytes, layout(road[0]), &road);
+    let before = layout(road[0]);
+    let sheet = sheet_of(word, |bytes| sheets::read_sheet(bytes, before, &road))?;
     Some(say_sheet(output, sheet, layout))
 }
 
@@ -142,9 +151,7 @@ fn read_period<W: Write, L: Fn(u32) -> Layout>(
 fn write_period<W: Write>(output: &mut W, word: &[u8], rest: &[u8]) -> Option<io::Result<()>> {
     let (road, rest) = text::next_word(rest)?;
     let road = road_of(road)?;
-    let mut buffer = [0; STUDY_ROOM];
-    let bytes = records::bytes_of(word, &mut buffer)?;
-    let row = row_of(sheets::read_period(bytes, &road));
+    let row = row_of(sheet_of(word, |bytes| sheets::read_period(bytes, &road))?);
     write_to(output, rest, |buffer, place| {
         Some(sheets::write_sheet(buffer, place, Layout::Period(row[0]), &row))
     })

@@ -121,7 +121,7 @@ fn answer<W: Write>(output: &mut W, f: &mut Facility, record: &[u8]) -> Option<i
 
 // Plays a record, and prints its answer.
 fn play<W: Write>(output: &mut W, f: &mut Facility, record: &[u8]) -> io::Result<()> {
-    records::say_record(output, record)?;
+    records::say_record(output, record);
     match answer(output, f, record) {
         Some(answered) => answered,
         None => writeln!(output, "not a record"),

@@ -58,10 +58,10 @@ fn say_line<W: Write>(output: &mut W, record: &[u8]) {
 
 // Tells that a record is none, and where it differs from its first byte.
 fn say_no_record<W: Write>(output: &mut W, record: &[u8]) -> io::Result<()> {
-    records::say_record(output, record)?;
+    records::say_record(output, record);
     write!(output, "not a record")?;
     if let Some(first) = record.first() {
-        records::say_altered(output, record, *first, 1, 3)?;
+        records::say_altered(output, record, *first, 1, 3);
     }
     writeln!(output)
 }

@@ -7,6 +7,7 @@ mod fields;
 mod told;
 
 use fields::{Field, Part};
+use input::Tried;
 use numbers::Number;
 use refusals::{Refusal, Refused};
 use std::io;
@@ -143,7 +144,9 @@ fn say_or_complain<W: Write, E: Write>(output: &mut W, errors: &mut E, bytes: &[
     // Stays: no plainer. A road that is refused has no numbers, and its ranges ask for none.
     let road = read.map_or([0; 452], |sheet| sheet.numbers);
     let refused = check::study(bytes, read).err();
-    if say_study(output, bytes, &road, refused).is_err() {
+    let mut tried = Tried::new(output);
+    let _ = say_study(&mut tried, bytes, &road, refused);
+    if tried.finish().is_err() {
         complain(errors, "cannot write the text");
     }
     if let Some(refused) = refused {
