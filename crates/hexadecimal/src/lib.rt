@@ -36,7 +36,7 @@ fn byte_of(high: u8, low: u8) -> Option<u8>
 }
 
 // Puts the bytes that a word spells, two digits each, at the start of a lent buffer, and says how many they are.
-// Stays: the proof did not close. Of a part of the buffer, given in the place of its count, no clause that proved said what the buffer has.
+// Stays: the proof did not close. With the bytes answered as a part of the buffer, no clause on the buffer itself was proved.
 pub fn bytes(word: &[u8], out: &mut [u8]) -> Result<usize, SpellingError>
     ensures spelled { (result ≡ read_bytes (length out.old) word.now) × HasBytes result word.now out.new }
     ensures within { IfOk result (λ count. count ≤ length out.new) }

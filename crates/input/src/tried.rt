@@ -6,7 +6,8 @@ ghost use Rattle.std.specs.Io.KnownBytes.{Appends, WriteAppends};
 use std::io;
 use std::io::Write;
 
-// An output of which each write is tried: no write fails, what could not be written is lost, and the end tells the last failure.
+// An output of which each write is tried: no write fails, what could not be written is lost, and the end tells the last failure. Where it tells
+// none, all was written.
 #[derive(Drop)]
 pub struct Tried<'a, W> {
     output: &'a mut W,
@@ -39,6 +40,7 @@ impl<W: Write> Write for Tried<'_, W> {
         ensures bytes { WriteAppends None None result buf.now }
         ensures tried { result ≡ Ok (length buf.now) }
         ensures kept { OnErr self.old.written (IsErr self.new.written) }
+        ensures all { OnOk self.new.written (Appends (W.contents self.old.output.now) (W.contents self.new.output.now) buf.now) }
     {
         let _ = self.write_all(buf);
         Ok(buf.len())
@@ -48,6 +50,7 @@ impl<W: Write> Write for Tried<'_, W> {
         ensures bytes { OnOk result (Appends None None buf.now) }
         ensures tried { IsOk result }
         ensures kept { OnErr self.old.written (IsErr self.new.written) }
+        ensures all { OnOk self.new.written (Appends (W.contents self.old.output.now) (W.contents self.new.output.now) buf.now) }
     {
         if let Err(error) = self.output.write_all(buf) {
             self.written = Err(error);
