@@ -95,7 +95,7 @@ fn play<R: Files, W: Write>(rt: &R, output: &mut W, record: &[u8]) -> io::Result
 }
 
 fn main(rt: HostRuntime) {
-    records::play_all(
+    records::play_all_tried(
         &mut Lines::<_, CHUNK_ROOM>::new(&mut rt.stdin()),
         &mut [0; LINE_ROOM],
         &mut rt.stdout(),

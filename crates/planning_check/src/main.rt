@@ -205,7 +205,7 @@ fn play<W: Write>(output: &mut W, record: &[u8], carryover: &mut Carryover) -> i
 
 fn main(rt: HostRuntime) {
     let mut carryover = Carryover::none();
-    records::play_all(
+    records::play_all_tried(
         &mut Lines::<_, CHUNK_ROOM>::new(&mut rt.stdin()),
         &mut [0; LINE_ROOM],
         &mut rt.stdout(),

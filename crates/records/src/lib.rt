@@ -6,6 +6,9 @@ ghost use Rattle.std.specs.Prelude.{◌≡◌, ◌≢◌, ◌<◌, ◌≤◌, �
 ghost use Rattle.text.specs.Text.{number_of};
 ghost use Rattle.records.specs.Rest.{taken_of, IsPartOf, IsOnlyWord, AreBytesOf, AreNumbersOf, IsOutside};
 
+#[cfg(test)]
+mod tests;
+
 use input::{Line, Lines, Tried};
 use refusals::Refused;
 use std::io::{Read, Write};
@@ -143,22 +146,22 @@ fn record_of<'a, W: Write>(output: &mut W, line: Line<'a>) -> Option<&'a [u8]>
     }
 }
 
-// Plays each record of a file, in order; a line of it has to fit the buffer. What cannot be printed is lost, and a read that fails is told.
+// Plays each record of a file, in order, on the output itself; a line of it has to fit the buffer. What cannot be printed here is lost, what playing
+// a record answers is passed over, and a read that fails is told.
 pub fn play_all<
     R: Read,
     W: Write,
     E: Write,
-    P: FnMut(&mut Tried<'_, W>, &[u8]) -> io::Result<()>,
+    P: FnMut(&mut W, &[u8]) -> io::Result<()>,
     const N: usize,
 >(lines: &mut Lines<'_, R, N>, line: &mut [u8], output: &mut W, errors: &mut E, mut play: P)
     requires { P.IsAlwaysCallable play }
 {
-    let mut output = Tried::new(output);
     for _ in 0..u64::MAX {
         match lines.next_line(line) {
             Ok(Some(taken)) => {
-                if let Some(record) = record_of(&mut output, taken) {
-                    let _ = play(&mut output, record);
+                if let Some(record) = record_of(output, taken) {
+                    let _ = play(output, record);
                 }
             }
             Ok(None) => return,
@@ -168,6 +171,19 @@ pub fn play_all<
             }
         }
     }
+}
+
+// The same, on an output of which each write is tried: what cannot be printed is lost, and the calls are made all the same.
+pub fn play_all_tried<
+    R: Read,
+    W: Write,
+    E: Write,
+    P: FnMut(&mut Tried<'_, W>, &[u8]) -> io::Result<()>,
+    const N: usize,
+>(lines: &mut Lines<'_, R, N>, line: &mut [u8], output: &mut W, errors: &mut E, play: P)
+    requires { P.IsAlwaysCallable play }
+{
+    play_all(lines, line, &mut Tried::new(output), errors, play);
 }
 
 // The one word of what is left of a record; none where there is no word or more than one.

@@ -130,7 +130,7 @@ fn play<W: Write>(output: &mut W, f: &mut Facility, record: &[u8]) -> io::Result
 
 fn main(rt: HostRuntime) {
     let mut f = facility::fresh_on([0; 452]);
-    records::play_all(
+    records::play_all_tried(
         &mut Lines::<_, CHUNK_ROOM>::new(&mut rt.stdin()),
         &mut [0; LINE_ROOM],
         &mut rt.stdout(),

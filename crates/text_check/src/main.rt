@@ -83,7 +83,7 @@ fn play<R: Files + Print, W: Write>(rt: &R, output: &mut W, record: &[u8]) -> io
 }
 
 fn main(rt: HostRuntime) {
-    records::play_all(
+    records::play_all_tried(
         &mut Lines::<_, 7>::new(&mut rt.stdin()),
         &mut [0; 64],
         &mut rt.stdout(),
